@@ -1,3 +1,4 @@
 pub mod Meaning
 pub mod Screen
 pub mod Pile
+pub mod Laws

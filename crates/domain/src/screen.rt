@@ -15,8 +15,8 @@ pub struct Screen<D> {
     pub below: D,
 }
 
-/// Passes where both operands are lawful.
-pub fn pass(left_lawful: bool, right_lawful: bool, height: u8) -> Result<(), Fault>
+/// Goes on where both operands are lawful, and faults at this height where one is not.
+pub fn require_lawful(left_lawful: bool, right_lawful: bool, height: u8) -> Result<(), Fault>
     ensures { λ r. ⌜ r ≡ cond («left_lawful» && «right_lawful») (Ok tt) (Err (faultOf Cause.UnlawfulOperand height)) ⌝ }
 {
     if left_lawful && right_lawful {
@@ -38,7 +38,7 @@ pub impl<D: Domain> Domain for Screen<D> as ScreenDomain {
         ensures answers { λ r. ⌜ Answers (screen (D·Domain .meaning (now (self .entry) .below))) op left right r ⌝ }
         ensures screens { λ r. ⌜ r ≡ screened (D·Domain .meaning (now (self .entry) .below)) op left right ⌝ }
     {
-        pass(self.below.is_lawful(left), self.below.is_lawful(right), self.height())?;
+        require_lawful(self.below.is_lawful(left), self.below.is_lawful(right), self.height())?;
         let answer = self.below.apply(op, left, right)?;
         Ok(answer)
     }
