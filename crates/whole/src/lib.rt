@@ -6,6 +6,7 @@ use domain::Fault;
 use domain::Op;
 ghost use mathlib.Core.Path.{_≡_};
 ghost use mathlib.Core.Bool.{cond};
+ghost use lib.IntN.{_*ℤ_};
 ghost use lib.Signed.{quotZ};
 ghost use Rattle.std.specs.Numbers.{saturated};
 ghost use Rattle.std.specs.declared.option.Option.the-variants.{Some, None};
@@ -37,6 +38,26 @@ fn settle(z: i64) -> Result<u64, Fault>
     }
 }
 
+/// The 64-bit number nearest to a number of 128 bits.
+fn saturate(z: i128) -> i64
+    ensures { λ r. ⌜ r ≡ saturated 63 z ⌝ }
+{
+    if z > i64::MAX as i128 {
+        i64::MAX
+    } else if z < i64::MIN as i128 {
+        i64::MIN
+    } else {
+        z as i64
+    }
+}
+
+/// The product, saturated: that of two 64-bit numbers has at most 128 bits.
+fn product(x: i64, y: i64) -> i64
+    ensures { λ r. ⌜ r ≡ saturated 63 (x *ℤ y) ⌝ }
+{
+    saturate(x as i128 * y as i128)
+}
+
 /// The quotient with its fraction dropped, or nothing at a zero divisor.
 fn quotient(x: i64, y: i64) -> Option<i64>
     ensures { λ r. ⌜ r ≡ cond (isZero y) None (Some (saturated 63 (quotZ x y))) ⌝ }
@@ -54,7 +75,7 @@ fn work_out(op: Op, x: i64, y: i64) -> Result<u64, Fault>
     match op {
         Op::Add => settle(x.saturating_add(y)),
         Op::Sub => settle(x.saturating_sub(y)),
-        Op::Mul => settle(x.saturating_mul(y)),
+        Op::Mul => settle(product(x, y)),
         Op::Div => match quotient(x, y) {
             Some(z) => settle(z),
             None => Err(Fault::new(Cause::ZeroDivisor, BOTTOM_HEIGHT)),
