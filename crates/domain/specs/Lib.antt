@@ -1,4 +1,5 @@
 pub mod Meaning
+pub mod Bottom
 pub mod Screen
 pub mod Pile
 pub mod Laws

@@ -1,3 +1,4 @@
 pub mod Numbers
 pub mod Closed
 pub mod Whole
+pub mod Laws

@@ -1,16 +1,15 @@
 -- Whole numbers in a range, and what an operation on two of them comes to.
-use mathlib.Core.Bool.{Bool, true, false, cond, _&&_}
+use mathlib.Core.Bool.{Bool, false, _&&_}
 use Prim.Native.Nat.{ℕ, _^_}
 use lib.Dec.{eqb, ltb}
 use lib.IntN.{ℤ, pos, negsuc, negℤ, _+ℤ_, _-ℤ_, _*ℤ_}
 use lib.Signed.{leZ, quotZ}
 use mir.Syntax.{w64}
 use mir.Val.{toZ, ofZ}
-use Rattle.std.specs.declared.result.Result.the-variants.{Ok, Err}
 use Rattle.domain.specs.declared.Op.{Op}
 use Rattle.domain.specs.declared.Op.the-variants.{Add, Sub, Mul, Div}
-use Rattle.domain.specs.declared.Cause.the-variants.{UnlawfulResult, ZeroDivisor}
-use Rattle.domain.specs.Meaning.{Answer, faultOf, bottomHeight}
+use Rattle.domain.specs.Meaning.{Answer}
+use Rattle.domain.specs.Bottom.{dividesByZero, divided, settled}
 
 -- The largest lawful number; the smallest is as far below zero.
 abbrev pub limit : ℕ
@@ -40,16 +39,6 @@ abbrev pub isZero : ℤ → Bool
 isZero (pos n) = eqb n 0
 isZero (negsuc n) = false
 
-abbrev pub dividesByZero : Op → ℤ → Bool
-dividesByZero Add y = false
-dividesByZero Sub y = false
-dividesByZero Mul y = false
-dividesByZero Div y = isZero y
-
--- The code of a result in the range.
-abbrev pub settled : ℤ → Answer
-settled z = cond (inRange z) (Ok (codeOf z)) (Err (faultOf UnlawfulResult bottomHeight))
-
--- What an operation on two numbers answers: a zero divisor is looked at first.
+-- What an operation on two numbers answers.
 abbrev pub answer : Op → ℤ → ℤ → Answer
-answer op x y = cond (dividesByZero op y) (Err (faultOf ZeroDivisor bottomHeight)) (settled (exact op x y))
+answer op x y = let z = exact op x y in divided (dividesByZero op (isZero y)) (settled (inRange z) (codeOf z))

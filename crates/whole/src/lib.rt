@@ -1,4 +1,6 @@
 //! Whole: the number domain of whole amounts, exact in a range.
+pub mod laws;
+
 use domain::BOTTOM_HEIGHT;
 use domain::Cause;
 use domain::Domain;
@@ -10,7 +12,8 @@ ghost use lib.IntN.{_*ℤ_};
 ghost use lib.Signed.{quotZ};
 ghost use Rattle.std.specs.Numbers.{saturated};
 ghost use Rattle.std.specs.declared.option.Option.the-variants.{Some, None};
-ghost use Rattle.whole.specs.Numbers.{answer, inRange, isZero, settled};
+ghost use Rattle.domain.specs.Bottom.{settled};
+ghost use Rattle.whole.specs.Numbers.{answer, codeOf, inRange, isZero};
 ghost use Rattle.whole.specs.Whole.{whole};
 
 /// The largest lawful number; the smallest is as far below zero.
@@ -29,7 +32,7 @@ fn is_in_range(x: i64) -> bool
 
 /// The code of a result in the range. A result past 64 bits comes here saturated, which is past the range too.
 fn settle(z: i64) -> Result<u64, Fault>
-    ensures { λ r. ⌜ r ≡ settled z ⌝ }
+    ensures { λ r. ⌜ r ≡ settled (inRange z) (codeOf z) ⌝ }
 {
     if is_in_range(z) {
         Ok(z.cast_unsigned())

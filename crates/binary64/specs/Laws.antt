@@ -1,0 +1,19 @@
+-- What holds of Binary64.
+use mathlib.Core.Path.{_≡_}
+use mathlib.Core.Bool.{true}
+use Prim.Native.Nat.{ℕ, _+_, _^_, _<_}
+use Rattle.domain.specs.Laws.{NeverScreens}
+use Rattle.binary64.specs.Rates.{numberOf, codeOf, isLawful}
+use Rattle.binary64.specs.Binary.{binary}
+
+-- A lawful code that is read as a float and written back is the same code.
+abbrev pub Codes-survive-reading : Type 0
+Codes-survive-reading = (n : ℕ) → isLawful n ≡ true → codeOf (numberOf n) ≡ n
+
+-- Zero and the subnormal numbers are lawful, with either sign: the codes with an exponent's field of 0.
+abbrev pub Subnormals-are-lawful : Type 0
+Subnormals-are-lawful = (n : ℕ) → n < 2 ^ 52 → (isLawful n ≡ true) × (isLawful (2 ^ 63 + n) ≡ true)
+
+-- Screen's cause never occurs in Binary64.
+abbrev pub Binary64-never-screens : Type 0
+Binary64-never-screens = NeverScreens binary

@@ -1,0 +1,4 @@
+pub mod Rates
+pub mod Closed
+pub mod Binary
+pub mod Laws
