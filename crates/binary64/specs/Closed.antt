@@ -20,7 +20,7 @@ pub lawful-sized : (n : ℕ) → isLawful n ≡ true → n < 2 ^ 64
 lawful-sized n h = ltb-true n (2 ^ 64) (and-parts (ltb n (2 ^ 64)) (finite (numberOf n)) h .0)
 
 -- A rounded result is a number of the format.
-rounded-fits : (op : Op) (x y : Float) → T (fits binary64 (rounded op x y))
+pub rounded-fits : (op : Op) (x y : Float) → T (fits binary64 (rounded op x y))
 rounded-fits Add x y = add-fits binary64 x y
 rounded-fits Sub x y = sub-fits binary64 x y
 rounded-fits Mul x y = mul-fits binary64 x y

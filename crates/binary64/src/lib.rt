@@ -43,7 +43,7 @@ pub fn read(code: u64) -> Option<f64>
 }
 
 /// The code of a number, where it is finite.
-pub fn settle(z: f64) -> Result<u64, Fault>
+fn settle(z: f64) -> Result<u64, Fault>
     ensures { λ r. ⌜ r ≡ settled (finite z) (codeOf z) ⌝ }
 {
     if z.is_finite() {

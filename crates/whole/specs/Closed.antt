@@ -20,7 +20,7 @@ pub lawful-sized : (n : ℕ) → isLawful n ≡ true → n < 2 ^ 64
 lawful-sized n h = ltb-true n (2 ^ 64) (and-parts (ltb n (2 ^ 64)) (inRange (numberOf n)) h .0)
 
 -- A number in the range has a small magnitude.
-range-magnitude : (z : ℤ) → inRange z ≡ true → mag z ≤ limit
+pub range-magnitude : (z : ℤ) → inRange z ≡ true → mag z ≤ limit
 range-magnitude (pos n) h = leb-true n limit h
 range-magnitude (negsuc n) h = omega (arith, leb-true n _ (and-parts _ _ h .0))
 
