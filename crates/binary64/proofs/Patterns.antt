@@ -46,10 +46,13 @@ finite-number (fin s m e) h = refl
 pub finite-no-nan : (n : ℕ) → finite (numberOf n) ≡ true → T (not (nanBits binary64 n))
 finite-no-nan n h = subst (λ (b : Bool). T (not b)) (sym (nanBits-is binary64 n ∙ finite-number _ h)) tt
 
+pub finite-survives : (n : ℕ) → n < 2 ^ 64 → finite (numberOf n) ≡ true → codeOf (numberOf n) ≡ n
+finite-survives n s h = toBits-ofBits binary64 n s (subst (λ (b : Bool). T (not b)) (sym (finite-number _ h)) tt)
+
 pub codes-survive-reading : (n : ℕ) → isLawful n ≡ true → codeOf (numberOf n) ≡ n
 codes-survive-reading n h =
     let p = and-parts (ltb n (2 ^ 64)) (finite (numberOf n)) h in
-    toBits-ofBits binary64 n (ltb-true n (2 ^ 64) (p .0)) (subst (λ (b : Bool). T (not b)) (sym (finite-number _ (p .1))) tt)
+    finite-survives n (ltb-true n (2 ^ 64) (p .0)) (p .1)
 
 -- A pattern of 64 bits is lawful where it is below that of infinity, but for its sign.
 below-lawful : (n : ℕ) → n < 2 ^ 64 → n % 0x8000_0000_0000_0000 < 0x7ff0_0000_0000_0000 → isLawful n ≡ true

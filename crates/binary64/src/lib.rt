@@ -9,6 +9,7 @@ use domain::Op;
 ghost use mathlib.Core.Path.{_≡_};
 ghost use mathlib.Core.Bool.{cond};
 ghost use Rattle.std.specs.Floats.{finite};
+ghost use Rattle.std.specs.Slices.{found};
 ghost use Rattle.std.specs.declared.option.Option.the-variants.{Some, None};
 ghost use Rattle.domain.specs.Bottom.{settled};
 ghost use Rattle.binary64.specs.Rates.{answer, codeOf, numberOf};
@@ -31,9 +32,10 @@ fn is_finite(code: u64) -> bool
     code % WITHOUT_SIGN < INFINITY
 }
 
-/// The number of a code, where it is finite.
-pub fn read(code: u64) -> Option<f64>
-    ensures { λ r. ⌜ r ≡ cond (finite (numberOf code)) (Some (numberOf code)) None ⌝ }
+/// The number of a code, where it is finite. Written back, it gives the same code.
+pub fn number_of(code: u64) -> Option<f64>
+    ensures value { λ r. ⌜ r ≡ cond (finite (numberOf code)) (Some (numberOf code)) None ⌝ }
+    ensures back { λ r. ⌜ found r (λ x. codeOf x ≡ code) ⌝ }
 {
     if is_finite(code) {
         Some(f64::from_bits(code))
@@ -43,13 +45,23 @@ pub fn read(code: u64) -> Option<f64>
 }
 
 /// The code of a number, where it is finite.
+pub fn code_of(x: f64) -> Option<u64>
+    ensures { λ r. ⌜ r ≡ cond (finite x) (Some (codeOf x)) None ⌝ }
+{
+    if x.is_finite() {
+        Some(x.to_bits())
+    } else {
+        None
+    }
+}
+
+/// The code of a finite result.
 fn settle(z: f64) -> Result<u64, Fault>
     ensures { λ r. ⌜ r ≡ settled (finite z) (codeOf z) ⌝ }
 {
-    if z.is_finite() {
-        Ok(z.to_bits())
-    } else {
-        Err(Fault::new(Cause::UnlawfulResult, BOTTOM_HEIGHT))
+    match code_of(z) {
+        Some(code) => Ok(code),
+        None => Err(Fault::new(Cause::UnlawfulResult, BOTTOM_HEIGHT)),
     }
 }
 
@@ -79,7 +91,7 @@ pub impl Domain for Binary64 as Binary64Domain {
 
     /// An operand that is no number is answered as a result that is none.
     fn apply(&self, op: Op, left: u64, right: u64) -> Result<u64, Fault> {
-        match (read(left), read(right)) {
+        match (number_of(left), number_of(right)) {
             (Some(x), Some(y)) => work_out(op, x, y),
             _ => Err(Fault::new(Cause::UnlawfulResult, BOTTOM_HEIGHT)),
         }

@@ -1,9 +1,9 @@
 -- What passes through layers.
 use mathlib.Core.Path.{_≡_, refl, sym, _∙_}
-use mathlib.Core.Bool.{true}
+use mathlib.Core.Bool.{Bool, true, false, cond, _&&_}
 use Prim.Native.Nat.{ℕ, _+_, min}
 use native.Mathlib.Omega.{arith}
-use Rattle.std.specs.declared.result.Result.the-variants.{Err}
+use Rattle.std.specs.declared.result.Result.the-variants.{Ok, Err}
 use Rattle.domain.specs.declared.Op.{Op}
 use Rattle.domain.specs.declared.pile.Pile.{Pile}
 use Rattle.domain.specs.declared.pile.Pile.the-variants.{Bottom, Screen′}
@@ -13,9 +13,17 @@ use Rattle.domain.specs.Screen.{screen}
 use Rattle.domain.specs.Pile.{piled, bottomOf, layers}
 use Rattle.domain.specs.Laws.{Layer, Layered, bare, over, FaultsPass, NeverScreens, Stands}
 
+code-passed : (t : Bool) (x : Answer) (f : Fault) (n : ℕ) → cond t x (Err f) ≡ Ok n → x ≡ Ok n
+code-passed true x f n h = h
+code-passed false x f n h = cc
+
 -- A Screen answers on lawful codes as the domain below.
 pub screen-below : (m : Meaning) (op : Op) (a b : ℕ) → m .lawful a ≡ true → m .lawful b ≡ true → screen m .table op a b ≡ m .table op a b
 screen-below m op a b p q = rw (p, q)
+
+-- A code that a Screen answers is the answer from below.
+pub screen-code : (m : Meaning) (op : Op) (a b n : ℕ) → screen m .table op a b ≡ Ok n → m .table op a b ≡ Ok n
+screen-code m op a b n = code-passed (m .lawful a && m .lawful b) (m .table op a b) _ n
 
 pub screen-layer : (m : Meaning) → Layer m (screen m)
 screen-layer m = record {
