@@ -38,7 +38,11 @@ pub impl<D: Domain> Domain for Screen<D> as ScreenDomain {
         ensures answers { λ r. ⌜ Answers (screen (D·Domain .meaning (now (self .entry) .below))) op left right r ⌝ }
         ensures screens { λ r. ⌜ r ≡ screened (D·Domain .meaning (now (self .entry) .below)) op left right ⌝ }
     {
-        require_lawful(self.below.is_lawful(left), self.below.is_lawful(right), self.height())?;
+        require_lawful(
+            self.below.is_lawful(left),
+            self.below.is_lawful(right),
+            self.height(),
+        )?;
         let answer = self.below.apply(op, left, right)?;
         Ok(answer)
     }

@@ -68,7 +68,10 @@ fn print_whole(rt: &LibcRuntime, coupon: &Coupon) -> io::Result<()> {
     match accrue_whole(coupon) {
         Ok(Accrued { amount, dropped }) => {
             let paid = Cents(amount.cast_signed());
-            println!(rt, "  accrued {paid}, and {dropped}/{basis} of a cent dropped")
+            println!(
+                rt,
+                "  accrued {paid}, and {dropped}/{basis} of a cent dropped"
+            )
         }
         Err(fault) => print_fault(rt, fault),
     }
@@ -99,7 +102,10 @@ fn main(rt: LibcRuntime) -> io::Result<()> {
     let rate = TERMS.rate_points;
     let days = TERMS.days;
     let year = TERMS.year_days;
-    println!(rt, "coupon on {face} at {rate} basis points for {days} of {year} days")?;
+    println!(
+        rt,
+        "coupon on {face} at {rate} basis points for {days} of {year} days"
+    )?;
     let coupon = in_whole_cents(&TERMS);
     print_whole(&rt, &coupon)?;
     if let Some(rates) = as_a_rate(&TERMS) {

@@ -12,6 +12,6 @@ returns c = record {
   subnormals = subnormals-are-lawful;
   results = results-are-rounded-once;
   causes = λ op a b f p q.
-    let z = rounded op (numberOf a) (numberOf b) in
-    never-screens (dividesByZero op (isZero (numberOf b))) (finite z) (codeOf z) f;
+      let z = rounded op (numberOf a) (numberOf b) in
+      never-screens (dividesByZero op (isZero (numberOf b))) (finite z) (codeOf z) f;
 }

@@ -12,6 +12,6 @@ returns c = record {
   divisors = quotients-have-divisors;
   division = λ x y h. (remZ x y, div-drops-toward-zero x y h);
   causes = λ op a b f p q.
-    let z = exact op (numberOf a) (numberOf b) in
-    never-screens (dividesByZero op (isZero (numberOf b))) (inRange z) (codeOf z) f;
+      let z = exact op (numberOf a) (numberOf b) in
+      never-screens (dividesByZero op (isZero (numberOf b))) (inRange z) (codeOf z) f;
 }
