@@ -4,7 +4,10 @@ use mathlib.Core.Bool.{true}
 use Prim.Native.Nat.{ℕ, _+_, _^_, _<_}
 use Rattle.std.specs.declared.result.Result.the-variants.{Ok}
 use Rattle.domain.specs.declared.Op.{Op}
+use Rattle.domain.specs.declared.pile.Pile.{Pile}
+use Rattle.domain.specs.Pile.{piled}
 use Rattle.domain.specs.Laws.{NeverScreens}
+use Rattle.binary64.specs.declared.Binary64.{Binary64}
 use Rattle.binary64.specs.Rates.{numberOf, codeOf, isLawful, rounded}
 use Rattle.binary64.specs.Binary.{binary}
 
@@ -20,6 +23,6 @@ Subnormals-are-lawful = (n : ℕ) → n < 2 ^ 52 → (isLawful n ≡ true) × (i
 abbrev pub Results-are-rounded-once : Type 0
 Results-are-rounded-once = (op : Op) (a b n : ℕ) → binary .table op a b ≡ Ok n → numberOf n ≡ rounded op (numberOf a) (numberOf b)
 
--- Screen's cause never occurs in Binary64.
-abbrev pub Binary64-never-screens : Type 0
-Binary64-never-screens = NeverScreens binary
+-- Screen's cause never occurs on lawful codes in Binary64, nor in any pile over it.
+abbrev pub Piles-over-Binary64-never-screen : Type 0
+Piles-over-Binary64-never-screen = (p : Pile Binary64) → NeverScreens (piled (λ d. binary) p)

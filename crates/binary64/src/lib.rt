@@ -17,7 +17,7 @@ ghost use Rattle.binary64.specs.Binary.{binary};
 
 /// The finite numbers of IEEE 754's binary64. The code is the bit pattern; each operation rounds once, to nearest,
 /// ties to even.
-#[derive(Clone, Copy, Debug)]
+#[derive(Clone, Copy)]
 pub struct Binary64;
 
 /// The bit pattern but for the sign.

@@ -8,7 +8,7 @@ ghost use mathlib.Core.Path.{_≡_};
 ghost use Rattle.domain.specs.Meaning.{Answers, Compares, Meaning, causeNumber, faultOf};
 
 /// The operations of every domain.
-#[derive(Clone, Copy, PartialEq, Eq, Debug)]
+#[derive(Clone, Copy)]
 pub enum Op {
     Add,
     Sub,
@@ -18,7 +18,7 @@ pub enum Op {
 
 /// Why an operation has no number as its answer: the causes that the domains of this library give.
 /// A domain of another make may give any other 8-bit number.
-#[derive(Clone, Copy, PartialEq, Eq, Debug)]
+#[derive(Clone, Copy)]
 pub enum Cause {
     /// The result is not a lawful code.
     UnlawfulResult = 1,
@@ -29,7 +29,7 @@ pub enum Cause {
 }
 
 /// A fault: why an operation has no number as its answer, and the height of the domain that said so.
-#[derive(Clone, Copy, PartialEq, Eq, Debug)]
+#[derive(Clone, Copy, PartialEq, Eq)]
 pub struct Fault {
     pub cause: u8,
     pub height: u8,

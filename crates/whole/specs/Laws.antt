@@ -7,7 +7,10 @@ use lib.Signed.{nonNeg, quotZ}
 use Rattle.std.specs.declared.result.Result.the-variants.{Ok}
 use Rattle.domain.specs.declared.Op.{Op}
 use Rattle.domain.specs.declared.Op.the-variants.{Div}
+use Rattle.domain.specs.declared.pile.Pile.{Pile}
+use Rattle.domain.specs.Pile.{piled}
 use Rattle.domain.specs.Laws.{NeverScreens}
+use Rattle.whole.specs.declared.Whole.{Whole}
 use Rattle.whole.specs.Numbers.{numberOf, exact, isZero}
 use Rattle.whole.specs.Whole.{whole}
 
@@ -29,6 +32,6 @@ Results-are-exact = (op : Op) (a b n : ℕ) → whole .table op a b ≡ Ok n →
 abbrev pub Quotients-have-divisors : Type 0
 Quotients-have-divisors = (a b n : ℕ) → whole .table Div a b ≡ Ok n → isZero (numberOf b) ≡ false
 
--- Screen's cause never occurs in Whole.
-abbrev pub Whole-never-screens : Type 0
-Whole-never-screens = NeverScreens whole
+-- Screen's cause never occurs on lawful codes in Whole, nor in any pile over it.
+abbrev pub Piles-over-Whole-never-screen : Type 0
+Piles-over-Whole-never-screen = (p : Pile Whole) → NeverScreens (piled (λ d. whole) p)

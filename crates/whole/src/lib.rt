@@ -21,7 +21,7 @@ pub const LIMIT: i64 = 1_000_000_000_000_000;
 
 /// Whole numbers from -10^15 to 10^15. The code is the two's complement of the number; results are exact, and Div
 /// drops the fraction toward zero.
-#[derive(Clone, Copy, Debug)]
+#[derive(Clone, Copy)]
 pub struct Whole;
 
 fn is_in_range(x: i64) -> bool
