@@ -14,6 +14,6 @@ returns c = record {
   subnormals = subnormals-are-lawful;
   results = results-are-rounded-once;
   causes = λ p. piles-never-screen (λ d. binary) p (λ op a b f l r.
-    let z = rounded op (numberOf a) (numberOf b) in
-    never-screens (dividesByZero op (isZero (numberOf b))) (finite z) (codeOf z) f);
+      let z = rounded op (numberOf a) (numberOf b) in
+      never-screens (dividesByZero op (isZero (numberOf b))) (finite z) (codeOf z) f);
 }

@@ -14,6 +14,6 @@ returns c = record {
   divisors = quotients-have-divisors;
   division = λ x y h. (remZ x y, div-drops-toward-zero x y h);
   causes = λ p. piles-never-screen (λ d. whole) p (λ op a b f l r.
-    let z = exact op (numberOf a) (numberOf b) in
-    never-screens (dividesByZero op (isZero (numberOf b))) (inRange z) (codeOf z) f);
+      let z = exact op (numberOf a) (numberOf b) in
+      never-screens (dividesByZero op (isZero (numberOf b))) (inRange z) (codeOf z) f);
 }
