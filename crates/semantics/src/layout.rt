@@ -1,7 +1,7 @@
 //! The caller's layout: what a record of a listing and an instruction of code look like.
 
 /// A record of a listing.
-#[derive(Clone, Copy, PartialEq, Eq, Debug)]
+#[derive(Clone, Copy, PartialEq, Eq)]
 pub struct Node {
     pub kind: u8,
     pub name: u16,
@@ -9,7 +9,7 @@ pub struct Node {
 }
 
 /// An instruction of code.
-#[derive(Clone, Copy, PartialEq, Eq, Debug)]
+#[derive(Clone, Copy, PartialEq, Eq)]
 pub struct Instr {
     pub kind: u8,
     pub name: u16,
