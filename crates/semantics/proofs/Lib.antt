@@ -5,12 +5,16 @@ pub mod SameOutcomes
 pub mod OneOutcome
 pub mod ReadingBack
 pub mod Counting
+pub mod Injective
+pub mod CodeSize
 pub mod Simulation
 pub mod Running
 pub mod Progress
 pub mod Room
 pub mod Agreement
 pub mod Verdicts
+pub mod Frames
+pub mod Rest
 pub mod Congruence
 pub mod Contraction
 pub mod Continuations

@@ -54,11 +54,11 @@ pub reads-back : ReadsBack
 reads-back names t h = read-emit 0 t (end ∷ []) (length names) [] [] [] ∙ fill-in-scope names [] t h
 
 -- What a number stands for is what it was made of.
-bit-again : (b : Bool) → bit-back (bit b) ≡ b
+pub bit-again : (b : Bool) → bit-back (bit b) ≡ b
 bit-again true = refl
 bit-again false = refl
 
-op-again : (o : Op) → op-back (op-number o) ≡ o
+pub op-again : (o : Op) → op-back (op-number o) ≡ o
 op-again Add = refl
 op-again Sub = refl
 op-again Mul = refl

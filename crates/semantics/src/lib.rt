@@ -6,4 +6,5 @@ pub mod layout;
 pub mod listing;
 pub mod run;
 pub mod showing;
+pub mod sizes;
 pub mod stored;
