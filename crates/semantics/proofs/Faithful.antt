@@ -35,7 +35,7 @@ module _ (𝓜 : Meaning) where
 
   module _ (cs : List ℕ) (t : Term) where
     -- At the start the term shows with its inputs filled in.
-    start-shows : show (start t cs) ≡ close (input-env cs) t
+    pub start-shows : show (start t cs) ≡ close (input-env cs) t
     start-shows = read-emit 0 t (end ∷ []) 0 (show-env (held-inputs cs)) [] [] ∙ ap (λ σ. fill 0 σ t) (shown-env-fits (inputs-fit cs))
 
     -- The term on its inputs, and the first shown term.

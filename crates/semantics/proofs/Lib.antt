@@ -20,6 +20,10 @@ pub mod Contraction
 pub mod Continuations
 pub mod ShownSteps
 pub mod Faithful
+pub mod OneReduction
+pub mod ShowsReductions
+pub mod ReductionSequence
 pub mod LockStep
 pub mod StoredRuns
 pub mod Lawful
+pub mod WellFormed

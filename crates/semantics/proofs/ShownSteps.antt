@@ -29,7 +29,7 @@ module _ (𝓜 : Meaning) where
   Kept T stuck = Unit {0}
 
   -- What shows for an environment is what each of its values shows.
-  term-at-fetch : (ρ : HeldEnv) (i : ℕ) → term-at (show-env ρ) i ≡ show-held (fetch ρ i)
+  pub term-at-fetch : (ρ : HeldEnv) (i : ℕ) → term-at (show-env ρ) i ≡ show-held (fetch ρ i)
   term-at-fetch ∅ i = refl
   term-at-fetch (h ◂ ρ) zero = refl
   term-at-fetch (h ◂ ρ) (suc i) = term-at-fetch ρ i

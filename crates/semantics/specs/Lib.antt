@@ -16,6 +16,8 @@ pub mod ReadingBack
 pub mod Agreement
 pub mod Rest
 pub mod Faithful
+pub mod Reduction
 pub mod StoredMachine
 pub mod StoredAgrees
 pub mod Lawful
+pub mod WellFormed

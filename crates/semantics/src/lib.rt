@@ -4,6 +4,7 @@ pub mod code;
 pub mod evaluation;
 pub mod layout;
 pub mod listing;
+pub mod reductions;
 pub mod run;
 pub mod showing;
 pub mod sizes;
