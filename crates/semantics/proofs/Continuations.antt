@@ -1,19 +1,19 @@
--- What waits for a value in a state of a run, and that it keeps what comes to the same.
-use mathlib.Core.Path.{_≡_, sym, ap, subst, subst₂}
+-- What waits for a value in a state of a run, and that the next contraction is looked for there.
+use mathlib.Core.Path.{_≡_, sym, ap, subst₂}
 use mathlib.Core.List.{List, [], _∷_}
 use Prim.Native.Nat.{ℕ, suc}
 use Rattle.domain.specs.declared.Op.{Op}
-use Rattle.domain.specs.Meaning.{Meaning}
-use Rattle.semantics.specs.Terms.{Term, binop, eq, app, let-in, if-then}
+use Rattle.semantics.specs.Terms.{Term, binop, eq, app, let-in}
 use Rattle.semantics.specs.Values.{Value, Env, _▸_, look}
 use Rattle.semantics.specs.Substitution.{fill}
 use Rattle.semantics.specs.Instructions.{Instruction, end, push-thunk, operate, compare, bind, unbind, apply, return, choose}
 use Rattle.semantics.specs.Translation.{code-size, emit}
-use Rattle.semantics.specs.Machine.{Held, HeldEnv, _◂_, Cell, val, thunk, return-to, State, at, fetch}
-use Rattle.semantics.specs.Showing.{in-let, read, show-held, show-env, own-cells, through-frames}
+use Rattle.semantics.specs.Machine.{Held, h-number, h-boolean, closure, HeldEnv, _◂_, Cell, val, thunk, return-to, State, at, fetch}
+use Rattle.semantics.specs.Showing.{Mark, in-let, holding, read, show-held, show-env, own-cells, through-frames}
+use Rattle.semantics.specs.Reduction.{IsValue, num-value, truth-value, lam-value}
 use Rattle.semantics.proofs.ReadingBack.{read-emit}
 use Rattle.semantics.proofs.Simulation.{Fits, FitsEnv, fits-more, fits-look}
-use Rattle.semantics.proofs.Congruence.{_⊑_, _≈_, ⊑-refl, binop-cong, eq-cong, app-cong, let-cong, if-cong}
+use Rattle.semantics.proofs.OneReduction.{Congruent}
 
 -- What the machine holds stands for some value.
 abbrev pub Good : Held → Type 0
@@ -61,59 +61,47 @@ pub data RunState : State → Type 0 where
 abbrev pub wrap : List Instruction → HeldEnv → List Cell → Term → Term
 wrap k ρ c T = through-frames (read k 0 (show-env ρ) [] (T ∷ own-cells c)) c
 
--- Reading the code of a term that is ahead pushes the term.
-wrap-emit : (q : ℕ) (r : Term) (k : List Instruction) (ρ : HeldEnv) (c : List Cell) (T : Term) →
-    wrap (emit q r k) ρ c T ≡ through-frames (read k 0 (show-env ρ) [] (fill 0 (show-env ρ) r ∷ T ∷ own-cells c)) c
-wrap-emit q r k ρ c T = ap (λ z. through-frames z c) (read-emit q r k 0 (show-env ρ) [] (T ∷ own-cells c))
+-- Reading the code of a term in a frame pushes the term, with the frame's values filled in.
+pub frame-read : (p : ℕ) (t : Term) (k : List Instruction) (ρ : HeldEnv) (ms : List Mark) (s : List Term) (c : List Cell) →
+    through-frames (read (emit p t k) 0 (show-env ρ) ms s) c ≡ through-frames (read k 0 (show-env ρ) ms (fill (holding 0 ms) (show-env ρ) t ∷ s)) c
+frame-read p t k ρ ms s c = ap (λ z. through-frames z c) (read-emit p t k 0 (show-env ρ) ms s)
 
-module _ (𝓜 : Meaning) where
-  along : {A A′ B B′ : Term} → A ≡ A′ → B ≡ B′ → _⊑_ 𝓜 A′ B′ → _⊑_ 𝓜 A B
-  along p q h = subst₂ (λ a b. _⊑_ 𝓜 a b) (sym p) (sym q) h
+-- What the machine holds shows as a value.
+pub held-shows-value : (h : Held) → IsValue (show-held h)
+held-shows-value (h-number c) = num-value
+held-shows-value (h-boolean b) = truth-value
+held-shows-value (closure x k ρ) = lam-value
 
-  -- What waits for a value keeps what comes to the same.
-  wrap-mono : {k : List Instruction} {ρ : HeldEnv} {c : List Cell} → Kont k ρ c → (T T′ : Term) → _⊑_ 𝓜 T T′ → _⊑_ 𝓜 (wrap k ρ c T) (wrap k ρ c T′)
-  wrap-mono k-end T T′ s = s
-  wrap-mono (k-return g K) T T′ s = wrap-mono K T T′ s
-  wrap-mono (k-binop-right o p q r {ρ = ρ} {k = k} {c = c} g K) T T′ s =
-      let R : Term = fill 0 (show-env ρ) r in
-      along (wrap-emit q r (operate o p ∷ k) ρ c T) (wrap-emit q r (operate o p ∷ k) ρ c T′)
-      (wrap-mono K (binop o T R) (binop o T′ R) (binop-cong 𝓜 o T T′ R R s (⊑-refl 𝓜 R)))
-  wrap-mono (k-binop-left o p {h = h} g K) T T′ s =
-      wrap-mono K (binop o (show-held h) T) (binop o (show-held h) T′) (binop-cong 𝓜 o (show-held h) (show-held h) T T′ (⊑-refl 𝓜 (show-held h)) s)
-  wrap-mono (k-eq-right p q r {ρ = ρ} {k = k} {c = c} g K) T T′ s =
-      let R : Term = fill 0 (show-env ρ) r in
-      along (wrap-emit q r (compare p ∷ k) ρ c T) (wrap-emit q r (compare p ∷ k) ρ c T′)
-      (wrap-mono K (eq T R) (eq T′ R) (eq-cong 𝓜 T T′ R R s (⊑-refl 𝓜 R)))
-  wrap-mono (k-eq-left p {h = h} g K) T T′ s =
-      wrap-mono K (eq (show-held h) T) (eq (show-held h) T′) (eq-cong 𝓜 (show-held h) (show-held h) T T′ (⊑-refl 𝓜 (show-held h)) s)
-  wrap-mono (k-app-right p q r {ρ = ρ} {k = k} {c = c} g K) T T′ s =
-      let R : Term = fill 0 (show-env ρ) r in
-      along (wrap-emit q r (apply p ∷ k) ρ c T) (wrap-emit q r (apply p ∷ k) ρ c T′)
-      (wrap-mono K (app T R) (app T′ R) (app-cong 𝓜 T T′ R R s (⊑-refl 𝓜 R)))
-  wrap-mono (k-app-left p {h = h} g g′ K) T T′ s =
-      wrap-mono K (app (show-held h) T) (app (show-held h) T′) (app-cong 𝓜 (show-held h) (show-held h) T T′ (⊑-refl 𝓜 (show-held h)) s)
-  wrap-mono (k-let-bound x q b {ρ = ρ} {k = k} {c = c} g K) T T′ s =
-      let B : Term = fill 1 (show-env ρ) b in
-      along (opened T) (opened T′)
-      (wrap-mono K (let-in x T B) (let-in x T′ B) (let-cong 𝓜 x T T′ B s))
+-- A relation that goes over to every place where the next contraction is looked for goes over to what waits for a value.
+module _ (R : Term → Term → Type 0) (C : Congruent R) where
+  along : {A A′ B B′ : Term} → A ≡ A′ → B ≡ B′ → R A′ B′ → R A B
+  along p q h = subst₂ R (sym p) (sym q) h
+
+  pub wrap-congruent : {k : List Instruction} {ρ : HeldEnv} {c : List Cell} → Kont k ρ c → (T T′ : Term) → R T T′ → R (wrap k ρ c T) (wrap k ρ c T′)
+  wrap-congruent k-end T T′ h = h
+  wrap-congruent (k-return g K) T T′ h = wrap-congruent K T T′ h
+  wrap-congruent (k-binop-right o p q r {ρ = ρ} {k = k} {c = c} g K) T T′ h =
+      along (opened T) (opened T′) (wrap-congruent K _ _ (C .in-binop-left h))
+    where
+      opened : (T : Term) → wrap (emit q r (operate o p ∷ k)) ρ c T ≡ wrap k ρ c (binop o T (fill 0 (show-env ρ) r))
+      opened T = frame-read q r (operate o p ∷ k) ρ [] (T ∷ own-cells c) c
+  wrap-congruent (k-binop-left o p {h = v} g K) T T′ h = wrap-congruent K _ _ (C .in-binop-right (held-shows-value v) h)
+  wrap-congruent (k-eq-right p q r {ρ = ρ} {k = k} {c = c} g K) T T′ h =
+      along (opened T) (opened T′) (wrap-congruent K _ _ (C .in-eq-left h))
+    where
+      opened : (T : Term) → wrap (emit q r (compare p ∷ k)) ρ c T ≡ wrap k ρ c (eq T (fill 0 (show-env ρ) r))
+      opened T = frame-read q r (compare p ∷ k) ρ [] (T ∷ own-cells c) c
+  wrap-congruent (k-eq-left p {h = v} g K) T T′ h = wrap-congruent K _ _ (C .in-eq-right (held-shows-value v) h)
+  wrap-congruent (k-app-right p q r {ρ = ρ} {k = k} {c = c} g K) T T′ h =
+      along (opened T) (opened T′) (wrap-congruent K _ _ (C .in-app-left h))
+    where
+      opened : (T : Term) → wrap (emit q r (apply p ∷ k)) ρ c T ≡ wrap k ρ c (app T (fill 0 (show-env ρ) r))
+      opened T = frame-read q r (apply p ∷ k) ρ [] (T ∷ own-cells c) c
+  wrap-congruent (k-app-left p {h = v} g gs K) T T′ h = wrap-congruent K _ _ (C .in-app-right (held-shows-value v) h)
+  wrap-congruent (k-let-bound x q b {ρ = ρ} {k = k} {c = c} g K) T T′ h =
+      along (opened T) (opened T′) (wrap-congruent K _ _ (C .in-bound h))
     where
       opened : (T : Term) → wrap (bind x ∷ emit q b (unbind ∷ k)) ρ c T ≡ wrap k ρ c (let-in x T (fill 1 (show-env ρ) b))
-      opened T = ap (λ z. through-frames z c) (read-emit q b (unbind ∷ k) 0 (show-env ρ) (in-let x T ∷ []) (own-cells c))
-  wrap-mono (k-let-body K) T T′ s = wrap-mono K T T′ s
-  wrap-mono (k-if p qt qe t e r₁ r₂ {ρ = ρ} g K) T T′ s =
-      let A : Term = read (emit qt t (return ∷ r₁)) 0 (show-env ρ) [] [] in
-      let B : Term = read (emit qe e (return ∷ r₂)) 0 (show-env ρ) [] [] in
-      wrap-mono K (if-then T A B) (if-then T′ A B) (if-cong 𝓜 T T′ A B s)
-
-  pub wrap-like : {k : List Instruction} {ρ : HeldEnv} {c : List Cell} → Kont k ρ c → (T T′ : Term) → _≈_ 𝓜 T T′ →
-      _≈_ 𝓜 (wrap k ρ c T) (wrap k ρ c T′)
-  wrap-like K T T′ (f, g) = (wrap-mono K T T′ f, wrap-mono K T′ T g)
-
-  pub like-refl : (T : Term) → _≈_ 𝓜 T T
-  like-refl T = (⊑-refl 𝓜 T, ⊑-refl 𝓜 T)
-
-  pub like-eq : (T T′ : Term) → T ≡ T′ → _≈_ 𝓜 T T′
-  like-eq T T′ q = subst (λ z. _≈_ 𝓜 T z) q (like-refl T)
-
-  pub like-along : {A A′ B B′ : Term} → A ≡ A′ → B ≡ B′ → _≈_ 𝓜 A′ B′ → _≈_ 𝓜 A B
-  like-along p q h = subst₂ (λ a b. _≈_ 𝓜 a b) (sym p) (sym q) h
+      opened T = frame-read q b (unbind ∷ k) ρ (in-let x T ∷ []) (own-cells c) c
+  wrap-congruent (k-let-body K) T T′ h = wrap-congruent K T T′ h
+  wrap-congruent (k-if p qt qe t e r₁ r₂ g K) T T′ h = wrap-congruent K _ _ (C .in-condition h)

@@ -1,21 +1,38 @@
--- The five contractions keep what a closed term comes to.
-use mathlib.Core.Path.{_≡_, refl, sym, ap, _∙_, subst}
-use mathlib.Core.Bool.{Bool}
+-- Contraction, and so reduction, keeps what a term with no inputs comes to.
+use mathlib.Core.Path.{_≡_, refl, sym, ap, _∙_, subst, subst₂}
+use mathlib.Core.Bool.{Bool, true, false, Bool·beq}
 use mathlib.Core.List.{[], _∷_}
 use Prim.Native.Nat.{ℕ, suc, _+_}
 use native.Mathlib.Omega.{arith}
+use Rattle.std.specs.declared.result.Result.the-variants.{Ok}
 use Rattle.domain.specs.declared.Op.{Op}
 use Rattle.domain.specs.declared.Fault.{Fault}
 use Rattle.domain.specs.Meaning.{Meaning}
-use Rattle.semantics.specs.Terms.{Term, truth, binop, eq, app, lam, let-in, if-then, size}
-use Rattle.semantics.specs.Values.{Value, number, boolean, function, Env, ε, _▸_, Outcome, yields, fails}
-use Rattle.semantics.specs.Evaluation.{a-function, sort-of, operated, compared, outcome-at, NotFunction, closing, branch, branch-place, Evals, e-num, e-truth, e-lam, e-binop, e-binop-left, e-binop-right, e-eq, e-eq-left, e-eq-right, e-app, e-app-no, e-app-left, e-app-right, e-let, e-let-left, e-if, e-if-no, e-if-left}
+use Rattle.semantics.specs.Terms.{Term, num, truth, binop, eq, app, lam, let-in, if-then, size}
+use Rattle.semantics.specs.Values.{Value, number, boolean, function, ε, _▸_, Outcome, yields, fails}
+use Rattle.semantics.specs.Evaluation.{answered, outcome-at, closing, branch, branch-place, Evals, e-num, e-truth, e-lam, e-binop, e-binop-left, e-binop-right, e-eq, e-eq-left, e-eq-right, e-app, e-app-no, e-app-left, e-app-right, e-let, e-let-left, e-if, e-if-no, e-if-left}
 use Rattle.semantics.specs.Substitution.{fill, reify, reify-env, close, sees-value, observe}
+use Rattle.semantics.specs.Reduction.{IsValue, num-value, truth-value, lam-value, Contraction, c-binop, c-eq-num, c-eq-truth, c-app, c-let, c-if, Reduces, r-top, r-binop-left, r-binop-right, r-eq-left, r-eq-right, r-app-left, r-app-right, r-let, r-if}
 use Rattle.semantics.proofs.Clash.{clash}
-use Rattle.semantics.proofs.Substitution.{fill-closed, reify-closed, reify-env-closed, fill-front, front-alike, close-close}
-use Rattle.semantics.proofs.Alike.{function-alike, sort-alike, two-alike, Has, leaf, has-value}
+use Rattle.semantics.proofs.Substitution.{fill-closed, reify-closed, reify-env-closed, close-close}
+use Rattle.semantics.proofs.Alike.{leaf, has-value}
 use Rattle.semantics.proofs.SameOutcomes.{same-filled}
-use Rattle.semantics.proofs.Congruence.{_≈_, from}
+use Rattle.semantics.proofs.Congruence.{_≈_, ⊑-refl, Lifts, from, binop-cong, eq-cong, app-cong, let-cong, if-cong}
+
+-- A term with no inputs: there is nothing to fill in.
+abbrev pub NoInputs : Term → Type 0
+NoInputs t = close ε t ≡ t
+
+-- Such a term that is a value is what some value shows.
+value-of : {v : Term} → IsValue v → NoInputs v → (w : Value) × (reify w ≡ v)
+value-of (num-value {c = c}) h = (number c, refl)
+value-of (truth-value {b = b}) h = (boolean b, refl)
+value-of (lam-value {x = x} {b = b}) h = (function x b 0 ε, h)
+
+-- What holds of both branches holds of the one chosen.
+pub of-branch : (P : Term → Type 0) (b : Bool) {t e : Term} → P t → P e → P (branch b t e)
+of-branch P true h k = h
+of-branch P false h k = k
 
 module _ (𝓜 : Meaning) where
   -- A shown value comes to itself.
@@ -35,123 +52,116 @@ module _ (𝓜 : Meaning) where
   itself : (v : Value) (p : ℕ) → (v′ : Value) × Evals 𝓜 ε p (reify v) (yields v′) 1 × (reify v ≡ reify v′)
   itself v p = has-value 𝓜 (leaf 𝓜 v 1 refl ε p (reify v) (sym (reify-closed v 0 [])))
 
-  -- What shows as v comes to what v shows.
-  to-value : (v : Value) (o : Outcome) → sees-value (reify v) ≡ observe o → (p′ : ℕ) → (n′ : ℕ) × Has 𝓜 ε p′ (reify v) n′ (observe o)
-  to-value v o q p′ = let (v′, d, e) = itself v p′ in (1, (yields v′, d, sym q ∙ ap sees-value e))
+  -- An operation on two numbers comes to the number that the domain answers, and back.
+  binop-then-answer : {o : Op} {a b c : ℕ} → 𝓜 .table o a b ≡ Ok c → Lifts 𝓜 (binop o (num a) (num b)) (num c)
+  binop-then-answer {c = c} e p n d (e-binop (e-num u) (e-num u′) q w) p′ =
+      (1, (yields (number c), e-num refl, ap observe (sym q) ∙ ap (λ r. observe (outcome-at p (answered r))) e))
+  binop-then-answer e p n d (e-binop-left dl) p′ = elim dl [ ]
+  binop-then-answer e p n d (e-binop-right dl dr w) p′ = elim dr [ ]
 
-  -- An operation on two shown values comes to what it gives, and what it gives comes to what the operation does.
-  binop-then-value : (o : Op) (v w r : Value) → ((p : ℕ) → outcome-at p (operated 𝓜 o (sort-of v) (sort-of w)) ≡ yields r) →
-      {p n : ℕ} {d : Outcome} → Evals 𝓜 ε p (binop o (reify v) (reify w)) d n → (p′ : ℕ) → (n′ : ℕ) × Has 𝓜 ε p′ (reify r) n′ (observe d)
-  binop-then-value o v w r is (e-binop {p = p} {v = v₁} {w = w₁} {d = d} dl dr e u) =
-      to-value r d (ap observe (sym (is p)) ∙ two-alike (operated 𝓜 o) p p v w v₁ w₁ (value-reify v dl) (value-reify w dr) ∙ ap observe e)
-  binop-then-value o v w r is (e-binop-left dl) = absurd (fault-reify v dl)
-  binop-then-value o v w r is (e-binop-right dl dr u) = absurd (fault-reify w dr)
+  answer-then-binop : {o : Op} {a b c : ℕ} → 𝓜 .table o a b ≡ Ok c → Lifts 𝓜 (num c) (binop o (num a) (num b))
+  answer-then-binop {c = c} e p n d (e-num u) p′ =
+      (1 + 1 + 1, (yields (number c), e-binop (e-num refl) (e-num refl) (ap (λ r. outcome-at p′ (answered r)) e) refl, refl))
 
-  value-then-binop : (o : Op) (v w r : Value) → ((p : ℕ) → outcome-at p (operated 𝓜 o (sort-of v) (sort-of w)) ≡ yields r) →
-      {p n : ℕ} {d : Outcome} → Evals 𝓜 ε p (reify r) d n → (p′ : ℕ) → (n′ : ℕ) × Has 𝓜 ε p′ (binop o (reify v) (reify w)) n′ (observe d)
-  value-then-binop o v w r is e p′ =
-      let (v₁, dl, qv) = itself v (suc p′) in
-      let (w₁, dr, qw) = itself w (suc p′ + size (reify v)) in (
-        1 + 1 + 1,
-        (
-          outcome-at p′ (operated 𝓜 o (sort-of v₁) (sort-of w₁)),
-          e-binop dl dr refl refl,
-          sym (eval-reify r e) ∙ ap observe (sym (is p′)) ∙ two-alike (operated 𝓜 o) p′ p′ v w v₁ w₁ qv qw,
-        ),
-      )
+  -- A comparison of two numbers, and of two booleans, comes to the boolean that it gives, and back.
+  eq-then-same : {a b : ℕ} {c : Bool} → 𝓜 .same a b ≡ c → Lifts 𝓜 (eq (num a) (num b)) (truth c)
+  eq-then-same {c = c} e p n d (e-eq (e-num u) (e-num u′) q w) p′ =
+      (1, (yields (boolean c), e-truth refl, ap observe (sym q) ∙ ap (λ z. sees-value (truth z)) e))
+  eq-then-same e p n d (e-eq-left dl) p′ = elim dl [ ]
+  eq-then-same e p n d (e-eq-right dl dr w) p′ = elim dr [ ]
 
-  -- An operation on two shown values contracts to what it gives.
-  pub binop-contracts : (o : Op) (v w r : Value) → ((p : ℕ) → outcome-at p (operated 𝓜 o (sort-of v) (sort-of w)) ≡ yields r) →
-      _≈_ 𝓜 (binop o (reify v) (reify w)) (reify r)
-  binop-contracts o v w r is = (from 𝓜 _ _ (λ p n d e. binop-then-value o v w r is e), from 𝓜 _ _ (λ p n d e. value-then-binop o v w r is e))
+  same-then-eq : {a b : ℕ} {c : Bool} → 𝓜 .same a b ≡ c → Lifts 𝓜 (truth c) (eq (num a) (num b))
+  same-then-eq {c = c} e p n d (e-truth u) p′ =
+      (1 + 1 + 1, (yields (boolean c), e-eq (e-num refl) (e-num refl) (ap (λ z. yields (boolean z)) e) refl, refl))
 
-  eq-then-value : (v w r : Value) → ((p : ℕ) → outcome-at p (compared 𝓜 (sort-of v) (sort-of w)) ≡ yields r) →
-      {p n : ℕ} {d : Outcome} → Evals 𝓜 ε p (eq (reify v) (reify w)) d n → (p′ : ℕ) → (n′ : ℕ) × Has 𝓜 ε p′ (reify r) n′ (observe d)
-  eq-then-value v w r is (e-eq {p = p} {v = v₁} {w = w₁} {d = d} dl dr e u) =
-      to-value r d (ap observe (sym (is p)) ∙ two-alike (compared 𝓜) p p v w v₁ w₁ (value-reify v dl) (value-reify w dr) ∙ ap observe e)
-  eq-then-value v w r is (e-eq-left dl) = absurd (fault-reify v dl)
-  eq-then-value v w r is (e-eq-right dl dr u) = absurd (fault-reify w dr)
+  eq-then-equal : {a b c : Bool} → Bool·beq a b ≡ c → Lifts 𝓜 (eq (truth a) (truth b)) (truth c)
+  eq-then-equal {c = c} e p n d (e-eq (e-truth u) (e-truth u′) q w) p′ =
+      (1, (yields (boolean c), e-truth refl, ap observe (sym q) ∙ ap (λ z. sees-value (truth z)) e))
+  eq-then-equal e p n d (e-eq-left dl) p′ = elim dl [ ]
+  eq-then-equal e p n d (e-eq-right dl dr w) p′ = elim dr [ ]
 
-  value-then-eq : (v w r : Value) → ((p : ℕ) → outcome-at p (compared 𝓜 (sort-of v) (sort-of w)) ≡ yields r) →
-      {p n : ℕ} {d : Outcome} → Evals 𝓜 ε p (reify r) d n → (p′ : ℕ) → (n′ : ℕ) × Has 𝓜 ε p′ (eq (reify v) (reify w)) n′ (observe d)
-  value-then-eq v w r is e p′ =
-      let (v₁, dl, qv) = itself v (suc p′) in
-      let (w₁, dr, qw) = itself w (suc p′ + size (reify v)) in (
-        1 + 1 + 1,
-        (
-          outcome-at p′ (compared 𝓜 (sort-of v₁) (sort-of w₁)),
-          e-eq dl dr refl refl,
-          sym (eval-reify r e) ∙ ap observe (sym (is p′)) ∙ two-alike (compared 𝓜) p′ p′ v w v₁ w₁ qv qw,
-        ),
-      )
+  equal-then-eq : {a b c : Bool} → Bool·beq a b ≡ c → Lifts 𝓜 (truth c) (eq (truth a) (truth b))
+  equal-then-eq {c = c} e p n d (e-truth u) p′ =
+      (1 + 1 + 1, (yields (boolean c), e-eq (e-truth refl) (e-truth refl) (ap (λ z. yields (boolean z)) e) refl, refl))
 
-  -- So does a comparison.
-  pub eq-contracts : (v w r : Value) → ((p : ℕ) → outcome-at p (compared 𝓜 (sort-of v) (sort-of w)) ≡ yields r) →
-      _≈_ 𝓜 (eq (reify v) (reify w)) (reify r)
-  eq-contracts v w r is = (from 𝓜 _ _ (λ p n d e. eq-then-value v w r is e), from 𝓜 _ _ (λ p n d e. value-then-eq v w r is e))
+  -- A value in front that shows alike can be filled in at once.
+  front-filled : (v v₁ : Value) (b : Term) → reify v ≡ reify v₁ → close (v₁ ▸ ε) b ≡ close ε (close (v ▸ ε) b)
+  front-filled v v₁ b q = ap (λ s. fill 0 (s ∷ []) b) (sym q) ∙ close-close (v ▸ ε) b
 
-  -- Filling the environment first and then its front is filling both.
-  front-one : (v v₁ : Value) (ρ : Env) (b : Term) → reify v ≡ reify v₁ → close (v₁ ▸ ε) (fill 1 (reify-env ρ) b) ≡ close ε (close (v ▸ ρ) b)
-  front-one v v₁ ρ b q =
-      ap (λ s. fill 0 (s ∷ []) (fill 1 (reify-env ρ) b)) (sym q) ∙ fill-front (reify v) (reify-env ρ) (reify-env-closed ρ) b 0 ∙ close-close (v ▸ ρ) b
+  -- A Lambda applied to a shown value comes to its body with the value filled in, and back.
+  app-then-body : (x : ℕ) (b : Term) (w : Value) → Lifts 𝓜 (app (lam x b) (reify w)) (close (w ▸ ε) b)
+  app-then-body x b w p n d (e-app {w = w₁} {j = j} (e-lam u′) da db u) p′ =
+      (j, same-filled 𝓜 db ε p′ (close (w ▸ ε) b) (front-filled w w₁ b (value-reify w da)))
+  app-then-body x b w p n d (e-app-no (e-lam u′) da nf u) p′ = elim nf [ ]
+  app-then-body x b w p n d (e-app-left df) p′ = elim df [ ]
+  app-then-body x b w p n d (e-app-right df da u) p′ = absurd (fault-reify w da)
 
-  let-then-body : (x : ℕ) (v : Value) (ρ : Env) (b : Term) → {p n : ℕ} {d : Outcome} → Evals 𝓜 ε p (let-in x (reify v) (fill 1 (reify-env ρ) b)) d n →
-      (p′ : ℕ) → (n′ : ℕ) × Has 𝓜 ε p′ (close (v ▸ ρ) b) n′ (observe d)
-  let-then-body x v ρ b (e-let {v = v₁} {k = k} da db u) p′ = (k, same-filled 𝓜 db ε p′ (close (v ▸ ρ) b) (front-one v v₁ ρ b (value-reify v da)))
-  let-then-body x v ρ b (e-let-left da) p′ = absurd (fault-reify v da)
+  body-then-app : (x : ℕ) (b : Term) (w : Value) → Lifts 𝓜 (close (w ▸ ε) b) (app (lam x b) (reify w))
+  body-then-app x b w p n d e p′ =
+      let (w₁, da, qw) = itself w (suc p′ + size (lam x b)) in
+      let (o′, db, qo) = same-filled 𝓜 e (w₁ ▸ ε) (suc (suc p′)) b (sym (front-filled w w₁ b qw)) in
+      (1 + 1 + 1 + n + closing o′, (o′, e-app (e-lam refl) da db refl, qo))
 
-  body-then-let : (x : ℕ) (v : Value) (ρ : Env) (b : Term) → {p n : ℕ} {d : Outcome} → Evals 𝓜 ε p (close (v ▸ ρ) b) d n →
-      (p′ : ℕ) → (n′ : ℕ) × Has 𝓜 ε p′ (let-in x (reify v) (fill 1 (reify-env ρ) b)) n′ (observe d)
-  body-then-let x v ρ b {n = n} e p′ =
+  -- So does a Let of a shown value.
+  let-then-body : (x : ℕ) (v : Value) (b : Term) → Lifts 𝓜 (let-in x (reify v) b) (close (v ▸ ε) b)
+  let-then-body x v b p n d (e-let {v = v₁} {k = k} da db u) p′ =
+      (k, same-filled 𝓜 db ε p′ (close (v ▸ ε) b) (front-filled v v₁ b (value-reify v da)))
+  let-then-body x v b p n d (e-let-left da) p′ = absurd (fault-reify v da)
+
+  body-then-let : (x : ℕ) (v : Value) (b : Term) → Lifts 𝓜 (close (v ▸ ε) b) (let-in x (reify v) b)
+  body-then-let x v b p n d e p′ =
       let (v₁, da, qv) = itself v (suc p′) in
-      let (o′, db, qo) = same-filled 𝓜 e (v₁ ▸ ε) (suc p′ + size (reify v)) (fill 1 (reify-env ρ) b) (sym (front-one v v₁ ρ b qv)) in
+      let (o′, db, qo) = same-filled 𝓜 e (v₁ ▸ ε) (suc p′ + size (reify v)) b (sym (front-filled v v₁ b qv)) in
       (1 + 1 + n + closing o′, (o′, e-let da db refl, qo))
 
-  -- A Let with a shown value contracts to its body with the value filled in.
-  pub let-contracts : (x : ℕ) (v : Value) (ρ : Env) (b : Term) → _≈_ 𝓜 (let-in x (reify v) (fill 1 (reify-env ρ) b)) (close (v ▸ ρ) b)
-  let-contracts x v ρ b = (from 𝓜 _ _ (λ p n d e. let-then-body x v ρ b e), from 𝓜 _ _ (λ p n d e. body-then-let x v ρ b e))
+  -- An If with a boolean comes to the branch chosen, and back.
+  if-then-branch : (b : Bool) (A B : Term) → Lifts 𝓜 (if-then (truth b) A B) (branch b A B)
+  if-then-branch b A B p n d (e-if {k = k} (e-truth u′) db u) p′ = (k, same-filled 𝓜 db ε p′ (branch b A B) refl)
+  if-then-branch b A B p n d (e-if-no (e-truth u′) nb u) p′ = elim nb [ ]
+  if-then-branch b A B p n d (e-if-left dc u) p′ = elim dc [ ]
 
-  app-then-body : (x q : ℕ) (w : Value) (ρ : Env) (b : Term) → {p n : ℕ} {d : Outcome} → Evals 𝓜 ε p (app (reify (function x b q ρ)) (reify w)) d n →
-      (p′ : ℕ) → (n′ : ℕ) × Has 𝓜 ε p′ (close (w ▸ ρ) b) n′ (observe d)
-  app-then-body x q w ρ b (e-app {x = x₁} {b = b₁} {ρ′ = ρ₁} {w = w₁} {j = j} df da db u) p′ =
-      let e : lam x (fill 1 (reify-env ρ) b) ≡ lam x₁ (fill 1 (reify-env ρ₁) b₁) = value-reify (function x b q ρ) df in
-      let eb : fill 1 (reify-env ρ₁) b₁ ≡ fill 1 (reify-env ρ) b = cc in
-      (j, same-filled 𝓜 db ε p′ (close (w ▸ ρ) b) (front-alike w₁ w ρ₁ ρ b₁ b (sym (value-reify w da)) eb ∙ close-close (w ▸ ρ) b))
-  app-then-body x q w ρ b (e-app-no {v = v₁} df da nf u) p′ =
-      absurd (function-no-function (subst NotFunction (sym (sort-alike (function x b q ρ) v₁ (value-reify (function x b q ρ) df))) nf))
-    where
-      function-no-function : NotFunction a-function → ⊥
-      function-no-function n = elim n [ ]
-  app-then-body x q w ρ b (e-app-left df) p′ = absurd (fault-reify (function x b q ρ) df)
-  app-then-body x q w ρ b (e-app-right df da u) p′ = absurd (fault-reify w da)
-
-  body-then-app : (x q : ℕ) (w : Value) (ρ : Env) (b : Term) → {p n : ℕ} {d : Outcome} → Evals 𝓜 ε p (close (w ▸ ρ) b) d n →
-      (p′ : ℕ) → (n′ : ℕ) × Has 𝓜 ε p′ (app (reify (function x b q ρ)) (reify w)) n′ (observe d)
-  body-then-app x q w ρ b {n = n} e p′ =
-      let F : Term = reify (function x b q ρ) in
-      let (v₁, df, qv) = itself (function x b q ρ) (suc p′) in
-      let (w₁, da, qw) = itself w (suc p′ + size F) in
-      let (b₁, q₁, ρ₁, fs, qb) = function-alike x _ v₁ qv in
-      let df′ : Evals 𝓜 ε (suc p′) F (yields (function x b₁ q₁ ρ₁)) 1 = subst (λ v. Evals 𝓜 ε (suc p′) F (yields v) 1) (sym fs) df in
-      let (o′, db, qo) = same-filled 𝓜 e (w₁ ▸ ρ₁) (suc q₁) b₁ (sym (close-close (w ▸ ρ) b) ∙ front-alike w w₁ ρ ρ₁ b b₁ qw qb) in
-      (1 + 1 + 1 + n + closing o′, (o′, e-app df′ da db refl, qo))
-
-  -- A shown function applied to a shown value contracts to its body with the value filled in.
-  pub app-contracts : (x q : ℕ) (w : Value) (ρ : Env) (b : Term) → _≈_ 𝓜 (app (reify (function x b q ρ)) (reify w)) (close (w ▸ ρ) b)
-  app-contracts x q w ρ b = (from 𝓜 _ _ (λ p n d e. app-then-body x q w ρ b e), from 𝓜 _ _ (λ p n d e. body-then-app x q w ρ b e))
-
-  if-then-branch : (b : Bool) (A B : Term) → {p n : ℕ} {d : Outcome} → Evals 𝓜 ε p (if-then (truth b) A B) d n → (p′ : ℕ) →
-      (n′ : ℕ) × Has 𝓜 ε p′ (branch b A B) n′ (observe d)
-  if-then-branch b A B (e-if {k = k} (e-truth u′) db u) p′ = (k, same-filled 𝓜 db ε p′ (branch b A B) refl)
-  if-then-branch b A B (e-if-no (e-truth u′) nb u) p′ = elim nb [ ]
-  if-then-branch b A B (e-if-left dc u) p′ = absurd (fault-reify (boolean b) dc)
-
-  branch-then-if : (b : Bool) (A B : Term) → {p n : ℕ} {d : Outcome} → Evals 𝓜 ε p (branch b A B) d n → (p′ : ℕ) →
-      (n′ : ℕ) × Has 𝓜 ε p′ (if-then (truth b) A B) n′ (observe d)
-  branch-then-if b A B {n = n} e p′ =
+  branch-then-if : (b : Bool) (A B : Term) → Lifts 𝓜 (branch b A B) (if-then (truth b) A B)
+  branch-then-if b A B p n d e p′ =
       let (o′, db, qo) = same-filled 𝓜 e ε (branch-place p′ b (truth b) A) (branch b A B) refl in
       (2 + 1 + 1 + n + closing o′, (o′, e-if (e-truth refl) db refl, qo))
 
-  -- An If with a boolean contracts to the branch chosen.
-  pub if-contracts : (b : Bool) (A B : Term) → _≈_ 𝓜 (if-then (truth b) A B) (branch b A B)
-  if-contracts b A B = (from 𝓜 _ _ (λ p n d e. if-then-branch b A B e), from 𝓜 _ _ (λ p n d e. branch-then-if b A B e))
+  -- Lifts both ways.
+  like : {t u : Term} → Lifts 𝓜 t u → Lifts 𝓜 u t → _≈_ 𝓜 t u
+  like {t} {u} f g = (from 𝓜 t u f, from 𝓜 u t g)
+
+  -- u has no inputs either, and comes to what t comes to.
+  abbrev Keeps : Term → Term → Type 0
+  Keeps t u = NoInputs u × _≈_ 𝓜 t u
+
+  -- A contraction keeps what a term with no inputs comes to.
+  contraction-keeps : {t u : Term} → Contraction 𝓜 t u → NoInputs t → Keeps t u
+  contraction-keeps (c-binop e) h = (refl, like (binop-then-answer e) (answer-then-binop e))
+  contraction-keeps (c-eq-num e) h = (refl, like (eq-then-same e) (same-then-eq e))
+  contraction-keeps (c-eq-truth e) h = (refl, like (eq-then-equal e) (equal-then-eq e))
+  contraction-keeps (c-app {x = x} {b = b} i e) h =
+      let (w, q) = value-of i cc in
+      subst₂ (λ z u. Keeps (app (lam x b) z) u) q (ap (λ z. fill 0 (z ∷ []) b) q ∙ e) (sym (close-close (w ▸ ε) b), like (app-then-body x b w) (body-then-app x b w))
+  contraction-keeps (c-let {x = x} {b = b} i e) h =
+      let (w, q) = value-of i cc in
+      subst₂ (λ z u. Keeps (let-in x z b) u) q (ap (λ z. fill 0 (z ∷ []) b) q ∙ e) (sym (close-close (w ▸ ε) b), like (let-then-body x w b) (body-then-let x w b))
+  contraction-keeps (c-if {b = b} {t = t} {e = f} e) h =
+      let (ht, hf) : NoInputs t × NoInputs f = (cc, cc) in
+      subst (Keeps (if-then (truth b) t f)) e (of-branch NoInputs b ht hf, like (if-then-branch b t f) (branch-then-if b t f))
+
+  -- So does a reduction.
+  pub reduction-keeps : {t u : Term} → Reduces 𝓜 t u → NoInputs t → Keeps t u
+  reduction-keeps (r-top c) h = contraction-keeps c h
+  reduction-keeps (r-binop-left {o = o} {r = r} d) h =
+      let (e, (f, g)) = reduction-keeps d cc in (cc, (binop-cong 𝓜 o _ _ r r f (⊑-refl 𝓜 r), binop-cong 𝓜 o _ _ r r g (⊑-refl 𝓜 r)))
+  reduction-keeps (r-binop-right {o = o} {l = l} v d) h =
+      let (e, (f, g)) = reduction-keeps d cc in (cc, (binop-cong 𝓜 o l l _ _ (⊑-refl 𝓜 l) f, binop-cong 𝓜 o l l _ _ (⊑-refl 𝓜 l) g))
+  reduction-keeps (r-eq-left {r = r} d) h =
+      let (e, (f, g)) = reduction-keeps d cc in (cc, (eq-cong 𝓜 _ _ r r f (⊑-refl 𝓜 r), eq-cong 𝓜 _ _ r r g (⊑-refl 𝓜 r)))
+  reduction-keeps (r-eq-right {l = l} v d) h =
+      let (e, (f, g)) = reduction-keeps d cc in (cc, (eq-cong 𝓜 l l _ _ (⊑-refl 𝓜 l) f, eq-cong 𝓜 l l _ _ (⊑-refl 𝓜 l) g))
+  reduction-keeps (r-app-left {a = a} d) h =
+      let (e, (f, g)) = reduction-keeps d cc in (cc, (app-cong 𝓜 _ _ a a f (⊑-refl 𝓜 a), app-cong 𝓜 _ _ a a g (⊑-refl 𝓜 a)))
+  reduction-keeps (r-app-right {f = l} v d) h =
+      let (e, (f, g)) = reduction-keeps d cc in (cc, (app-cong 𝓜 l l _ _ (⊑-refl 𝓜 l) f, app-cong 𝓜 l l _ _ (⊑-refl 𝓜 l) g))
+  reduction-keeps (r-let {x = x} {b = b} d) h = let (e, (f, g)) = reduction-keeps d cc in (cc, (let-cong 𝓜 x _ _ b f, let-cong 𝓜 x _ _ b g))
+  reduction-keeps (r-if {t = t} {e = e′} d) h = let (e, (f, g)) = reduction-keeps d cc in (cc, (if-cong 𝓜 _ _ t e′ f, if-cong 𝓜 _ _ t e′ g))

@@ -17,12 +17,11 @@ pub mod Frames
 pub mod Rest
 pub mod Congruence
 pub mod Contraction
+pub mod OneReduction
 pub mod Continuations
 pub mod ShownSteps
-pub mod Faithful
-pub mod OneReduction
-pub mod ShowsReductions
 pub mod ReductionSequence
+pub mod Faithful
 pub mod LockStep
 pub mod StoredRuns
 pub mod Lawful

@@ -1,19 +1,11 @@
--- A term reduces to at most one, and what has a stuck term next in turn is stuck.
+-- A term reduces to at most one, and a node whose turn waits for a stuck term is stuck.
 use mathlib.Core.Path.{_≡_, sym, ap, _∙_}
 use Prim.Native.Nat.{ℕ}
 use Rattle.std.specs.declared.result.Result.the-variants.{Ok}
 use Rattle.domain.specs.declared.Op.{Op}
 use Rattle.domain.specs.Meaning.{Meaning, Answer}
 use Rattle.semantics.specs.Terms.{Term, num, truth, binop, eq, app, let-in, if-then}
-use Rattle.semantics.specs.Machine.{Held, h-number, h-boolean, closure}
-use Rattle.semantics.specs.Showing.{show-held}
 use Rattle.semantics.specs.Reduction.{IsValue, num-value, truth-value, lam-value, Contraction, c-binop, c-eq-num, c-eq-truth, c-app, c-let, c-if, Reduces, r-top, r-binop-left, r-binop-right, r-eq-left, r-eq-right, r-app-left, r-app-right, r-let, r-if, IsStuck, AtMostOneReduction}
-
--- What the machine holds shows as a value.
-pub held-shows-value : (h : Held) → IsValue (show-held h)
-held-shows-value (h-number c) = num-value
-held-shows-value (h-boolean b) = truth-value
-held-shows-value (closure x k ρ) = lam-value
 
 -- A relation between terms that goes over to every place where the next contraction is looked for.
 pub record Congruent (R : Term → Term → Type 0) : Type 0 where
@@ -61,6 +53,7 @@ module _ (𝓜 : Meaning) where
   at-top (ready-let v) (r-let d) = absurd (settled v d)
   at-top (ready-if v) (r-if d) = absurd (settled v d)
 
+  -- Nor is it a value.
   unsettled : {t : Term} → Ready t → IsValue t → ⊥
   unsettled h num-value = elim h [ ]
   unsettled h truth-value = elim h [ ]
@@ -82,6 +75,7 @@ module _ (𝓜 : Meaning) where
   unique-contraction (c-app v e) (c-app v′ e′) = sym e ∙ e′
   unique-contraction (c-if e) (c-if e′) = sym e ∙ e′
 
+  -- Nor does a term that contracts at the top reduce to another.
   unique-at-top : {t u u′ : Term} → Contraction 𝓜 t u → Reduces 𝓜 t u′ → u ≡ u′
   unique-at-top c d = unique-contraction c (at-top (contraction-ready c) d)
 
@@ -124,7 +118,7 @@ module _ (𝓜 : Meaning) where
     in-condition = r-if;
   }
 
-  -- What has a stuck term at the place where the next contraction is looked for is stuck.
+  -- A node that has a stuck term where the next contraction is looked for is stuck.
   stuck-binop-left : {o : Op} {l r : Term} → IsStuck 𝓜 l → {u : Term} → Reduces 𝓜 (binop o l r) u → ⊥
   stuck-binop-left s (r-top (c-binop e)) = s .0 num-value
   stuck-binop-left s (r-binop-left {l′ = l′} d) = s .1 l′ d

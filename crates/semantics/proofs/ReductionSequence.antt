@@ -1,33 +1,37 @@
--- The shown terms of a run are the reduction sequence of its term.
+-- The shown terms of a run are exactly the reduction sequence of its term.
 use mathlib.Core.Path.{_≡_, refl, sym, ap, _∙_, subst, subst₂}
 use mathlib.Core.Bool.{Bool, true, false}
-use mathlib.Core.List.{List, _∷_}
+use mathlib.Core.List.{List, [], _∷_}
 use Prim.Native.Nat.{ℕ, suc, _+_}
 use Rattle.domain.specs.Meaning.{Meaning}
 use Rattle.semantics.specs.Terms.{Term, num, truth, var, binop, eq, app, lam, let-in, if-then, size}
 use Rattle.semantics.specs.Values.{input-env}
-use Rattle.semantics.specs.Instructions.{Instruction, push-thunk, return, choose}
+use Rattle.semantics.specs.Substitution.{fill, close}
+use Rattle.semantics.specs.Instructions.{Instruction, end, push-thunk, return, choose}
 use Rattle.semantics.specs.Translation.{code-size, emit}
 use Rattle.semantics.specs.Running.{goes, ends, faults, stuck}
-use Rattle.semantics.specs.Machine.{Held, closure, HeldEnv, Cell, val, thunk, State, at, MachineNext, step, start, machine-run, Steps, here, more}
-use Rattle.semantics.specs.Showing.{show}
+use Rattle.semantics.specs.Machine.{Held, closure, HeldEnv, Cell, val, thunk, State, at, MachineNext, step, held-inputs, start, Steps, here, more}
+use Rattle.semantics.specs.Showing.{show-env, show}
 use Rattle.semantics.specs.Reduction.{Reduces, Reductions, r-here, r-more, contracting, tally, contractions, StepShows, ShowsTheReductions, ShowsExactlyTheReductions, EveryStopShowsAReduct}
+use Rattle.semantics.proofs.ReadingBack.{read-emit}
 use Rattle.semantics.proofs.Simulation.{drop-body}
 use Rattle.semantics.proofs.Room.{run-stops-at-a-step}
-use Rattle.semantics.proofs.Agreement.{inputs-fit}
-use Rattle.semantics.proofs.Continuations.{Kont, k-end, k-return, k-binop-right, k-binop-left, k-eq-right, k-eq-left, k-app-right, k-app-left, k-let-bound, k-let-body, k-if, RunState, on-term, on-value, between-thunks}
-use Rattle.semantics.proofs.ShownSteps.{Kept, state-keeps}
-use Rattle.semantics.proofs.Faithful.{start-shows}
+use Rattle.semantics.proofs.Agreement.{shown-env-fits, inputs-fit}
 use Rattle.semantics.proofs.OneReduction.{settled, unique-reduct}
-use Rattle.semantics.proofs.ShowsReductions.{shows-next}
+use Rattle.semantics.proofs.Continuations.{Kont, k-end, k-return, k-binop-right, k-binop-left, k-eq-right, k-eq-left, k-app-right, k-app-left, k-let-bound, k-let-body, k-if, RunState, on-term, on-value, between-thunks}
+use Rattle.semantics.proofs.ShownSteps.{InRun, state-kept}
+
+-- A run begins by showing the term with its inputs filled in.
+start-shows : (cs : List ℕ) (t : Term) → show (start t cs) ≡ close (input-env cs) t
+start-shows cs t = read-emit 0 t (end ∷ []) 0 (show-env (held-inputs cs)) [] [] ∙ ap (λ σ. fill 0 σ t) (shown-env-fits (inputs-fit cs))
+
+-- Every state on the way is a state of a run.
+start-run-state : (cs : List ℕ) (t : Term) → RunState (start t cs)
+start-run-state cs t = on-term 0 t (input-env cs, inputs-fit cs) k-end
 
 module _ (𝓜 : Meaning) where
-  -- Every state on the way is a state of a run.
-  start-run-state : (cs : List ℕ) (t : Term) → RunState (start t cs)
-  start-run-state cs t = on-term 0 t (input-env cs, inputs-fit cs) k-end
-
   next-run-state : {s s′ : State} → RunState s → step 𝓜 s ≡ goes s′ → RunState s′
-  next-run-state {s = s} c q = subst (Kept 𝓜 (show s)) q (state-keeps 𝓜 c) .0
+  next-run-state c q = subst InRun q (state-kept 𝓜 c .0)
 
   run-state-along : {n : ℕ} {s s′ : State} → Steps 𝓜 n s s′ → RunState s → RunState s′
   run-state-along here c = c
@@ -37,7 +41,7 @@ module _ (𝓜 : Meaning) where
   steps-reduce : {n : ℕ} {s s′ : State} (d : Steps 𝓜 n s s′) → RunState s → Reductions 𝓜 (contractions d) (show s) (show s′)
   steps-reduce here c = r-here
   steps-reduce (more {s = s} {s′ = s′} {s″ = s″} q d) c =
-      go (contracting s) (contractions d) (subst (StepShows 𝓜 (show s) (contracting s)) q (shows-next 𝓜 c)) (steps-reduce d (next-run-state c q))
+      go (contracting s) (contractions d) (subst (StepShows 𝓜 (show s) (contracting s)) q (state-kept 𝓜 c .1)) (steps-reduce d (next-run-state c q))
     where
       go : (b : Bool) (k : ℕ) → StepShows 𝓜 (show s) b (goes s′) → Reductions 𝓜 k (show s′) (show s″) → Reductions 𝓜 (tally b k) (show s) (show s″)
       go true k d r = r-more d r
@@ -76,7 +80,7 @@ module _ (𝓜 : Meaning) where
       (silent (ap (λ i. goes (at i ρ (thunk els ρ ∷ thunk thn ρ ∷ c) m)) (drop-body qe e cnd)) refl
       (term-settles q (suc p) _ ρ _ m (λ h. contracts-next refl)))
 
-  -- A value on top is taken at once, or after what has been worked out around it is closed.
+  -- A value on top is taken at once, or once the bodies around it are left.
   value-settles : {k : List Instruction} {ρ : HeldEnv} {c : List Cell} → Kont k ρ c → (h : Held) (m : ℕ) → Settles (at k ρ (val h ∷ c) m)
   value-settles k-end h m = ends-next refl
   value-settles (k-return g K) h m = silent refl refl (value-settles K h m)
@@ -90,6 +94,7 @@ module _ (𝓜 : Meaning) where
   value-settles (k-let-body K) h m = silent refl refl (value-settles K h m)
   value-settles (k-if p qt qe t e r₁ r₂ g K) h m = contracts-next refl
 
+  -- So every state of a run settles.
   state-settles : {s : State} → RunState s → Settles s
   state-settles (on-term p t {m = m} g K) = term-settles t p _ _ _ m (λ h. value-settles K h m)
   state-settles (on-value {h = h} {m = m} g K) = value-settles K h m
@@ -103,41 +108,45 @@ module _ (𝓜 : Meaning) where
   ShownAfter s k u = (n : ℕ) × (s′ : State) × (d : Steps 𝓜 n s s′) × (contractions d ≡ k) × (show s′ ≡ u)
 
   -- A step before, counted if it contracts.
-  one-step : {s s′ : State} {b : Bool} {k : ℕ} {u : Term} → step 𝓜 s ≡ goes s′ → contracting s ≡ b → ShownAfter s′ k u → ShownAfter s (tally b k) u
-  one-step {s = s} {b = b} q e (n, s″, d, z, r) = (suc n, s″, more q d, ap (λ b. tally b (contractions d)) e ∙ ap (tally b) z, r)
+  after-one-step : {s s′ : State} {b : Bool} {k : ℕ} {u : Term} → step 𝓜 s ≡ goes s′ → contracting s ≡ b → ShownAfter s′ k u →
+      ShownAfter s (tally b k) u
+  after-one-step {s = s} {b = b} q e (n, s″, d, z, r) = (suc n, s″, more q d, ap (λ b. tally b (contractions d)) e ∙ ap (tally b) z, r)
 
   -- Where what is shown reduces, the run comes to show its reduct.
   next-shown : {s : State} {k : ℕ} {t u : Term} → Settles s → RunState s → Reduces 𝓜 (show s) t →
       ((s′ : State) → RunState s′ → show s′ ≡ t → ShownAfter s′ k u) → ShownAfter s (suc k) u
   next-shown {s = s} {k = k} {t = t} {u = u} (contracts-next e) c d f =
-      go (step 𝓜 s) refl (subst (λ b. StepShows 𝓜 (show s) b (step 𝓜 s)) e (shows-next 𝓜 c))
+      go (step 𝓜 s) refl (subst (λ b. StepShows 𝓜 (show s) b (step 𝓜 s)) e (state-kept 𝓜 c .1))
     where
       go : (x : MachineNext) → step 𝓜 s ≡ x → StepShows 𝓜 (show s) true x → ShownAfter s (suc k) u
-      go (goes s′) q d′ = one-step q e (f s′ (next-run-state c q) (unique-reduct 𝓜 d′ d))
+      go (goes s′) q d′ = after-one-step q e (f s′ (next-run-state c q) (unique-reduct 𝓜 d′ d))
       go (ends h) q r = absurd (settled 𝓜 (r .1) d)
       go (faults φ p) q r = absurd (r .1 t d)
       go stuck q r = absurd r
-  next-shown {s = s} (ends-next q) c d f = absurd (settled 𝓜 (subst (StepShows 𝓜 (show s) (contracting s)) q (shows-next 𝓜 c) .1) d)
+  next-shown {s = s} (ends-next q) c d f = absurd (settled 𝓜 (subst (StepShows 𝓜 (show s) (contracting s)) q (state-kept 𝓜 c .1) .1) d)
   next-shown {s = s} {t = t} (silent {s′ = s′} q e r) c d f =
-      let same : show s′ ≡ show s = subst₂ (StepShows 𝓜 (show s)) e q (shows-next 𝓜 c) in
-      one-step q e (next-shown r (next-run-state c q) (subst (λ T. Reduces 𝓜 T t) (sym same) d) f)
+      let same : show s′ ≡ show s = subst₂ (StepShows 𝓜 (show s)) e q (state-kept 𝓜 c .1) in
+      after-one-step q e (next-shown r (next-run-state c q) (subst (λ T. Reduces 𝓜 T t) (sym same) d) f)
 
   -- The run comes to show every term of the reduction sequence.
   sequence-shown : {k : ℕ} {t u : Term} → Reductions 𝓜 k t u → (s : State) → RunState s → show s ≡ t → ShownAfter s k u
   sequence-shown r-here s c e = (0, s, here, refl, e)
   sequence-shown (r-more {t′ = t′} d r) s c e = next-shown (state-settles c) c (subst (λ T. Reduces 𝓜 T t′) (sym e) d) (sequence-shown r)
 
+-- After any steps of a run the shown term is a reduct of the term with its inputs filled in.
+pub shown-reduct : (𝓜 : Meaning) (cs : List ℕ) (t : Term) {n : ℕ} {s : State} (d : Steps 𝓜 n (start t cs) s) →
+    Reductions 𝓜 (contractions d) (close (input-env cs) t) (show s)
+shown-reduct 𝓜 cs t {s = s} d =
+    subst (λ T. Reductions 𝓜 (contractions d) T (show s)) (start-shows cs t) (steps-reduce 𝓜 d (start-run-state cs t))
+
 pub shows-the-reductions : ShowsTheReductions
-shows-the-reductions 𝓜 cs t = (start-shows 𝓜 cs t, λ n s d. shows-next 𝓜 (run-state-along 𝓜 d (start-run-state 𝓜 cs t)))
+shows-the-reductions 𝓜 cs t = (start-shows cs t, λ n s d. state-kept 𝓜 (run-state-along 𝓜 d (start-run-state cs t)) .1)
 
 pub shows-exactly-the-reductions : ShowsExactlyTheReductions
 shows-exactly-the-reductions 𝓜 cs t k u = (
-  λ r. sequence-shown 𝓜 r (start t cs) (start-run-state 𝓜 cs t) (start-shows 𝓜 cs t),
-  λ (n, s, d, z, e). subst₂ (λ k T. Reductions 𝓜 k T u) z (start-shows 𝓜 cs t) (subst (Reductions 𝓜 (contractions d) (show (start t cs))) e (steps-reduce 𝓜 d (start-run-state 𝓜 cs t))),
+  λ r. sequence-shown 𝓜 r (start t cs) (start-run-state cs t) (start-shows cs t),
+  λ (n, s, d, z, e). subst₂ (λ k u. Reductions 𝓜 k (close (input-env cs) t) u) z e (shown-reduct 𝓜 cs t d),
 )
 
 pub every-stop-shows-a-reduct : EveryStopShowsAReduct
-every-stop-shows-a-reduct 𝓜 L cs t g =
-    let (n, d) = run-stops-at-a-step 𝓜 L g (start t cs) in
-    let s : State = machine-run 𝓜 L g (start t cs) .state in
-    (n, d, shows-exactly-the-reductions 𝓜 cs t (contractions d) (show s) .1 (n, s, d, refl, refl))
+every-stop-shows-a-reduct 𝓜 L cs t g = let (n, d) = run-stops-at-a-step 𝓜 L g (start t cs) in (n, d, shown-reduct 𝓜 cs t d)

@@ -1,6 +1,5 @@
 -- Reduction keeps terms well formed, so what a run shows is.
-use mathlib.Core.Path.{refl, subst}
-use mathlib.Core.Bool.{Bool, true, false}
+use mathlib.Core.Path.{subst}
 use mathlib.Core.List.{List, [], _∷_, _++_}
 use Prim.Native.Nat.{ℕ, zero, suc}
 use lib.ListN.{length}
@@ -8,15 +7,14 @@ use Rattle.domain.specs.Meaning.{Meaning, InOrder}
 use Rattle.semantics.specs.Terms.{Term, num, truth, var, binop, eq, app, lam, let-in, if-then}
 use Rattle.semantics.specs.Scope.{Bears, InScope, LawfulTerm}
 use Rattle.semantics.specs.Values.{input-env}
-use Rattle.semantics.specs.Evaluation.{branch}
 use Rattle.semantics.specs.Substitution.{term-at, fill-var, fill, reify-env}
 use Rattle.semantics.specs.Machine.{start}
-use Rattle.semantics.specs.Showing.{show}
-use Rattle.semantics.specs.Reduction.{Contraction, c-binop, c-eq-num, c-eq-truth, c-app, c-let, c-if, Reduces, r-top, r-binop-left, r-binop-right, r-eq-left, r-eq-right, r-app-left, r-app-right, r-let, r-if, Reductions, r-here, r-more, contractions}
+use Rattle.semantics.specs.Reduction.{Contraction, c-binop, c-eq-num, c-eq-truth, c-app, c-let, c-if, Reduces, r-top, r-binop-left, r-binop-right, r-eq-left, r-eq-right, r-app-left, r-app-right, r-let, r-if, Reductions, r-here, r-more}
 use Rattle.semantics.specs.Lawful.{AllLawful}
 use Rattle.semantics.specs.WellFormed.{WellFormed, ShownTermsAreWellFormed, EveryStopShowsAWellFormedTerm}
 use Rattle.semantics.proofs.Room.{run-stops-at-a-step}
-use Rattle.semantics.proofs.ReductionSequence.{shows-exactly-the-reductions}
+use Rattle.semantics.proofs.Contraction.{of-branch}
+use Rattle.semantics.proofs.ReductionSequence.{shown-reduct}
 
 -- Names further out change nothing.
 bears-further : (inner outer : List ℕ) (i x : ℕ) → Bears inner i x → Bears (inner ++ outer) i x
@@ -59,13 +57,13 @@ filled-in-scope inner outer σ f (if-then c t e) h =
     (filled-in-scope inner outer σ f c (h .0), filled-in-scope inner outer σ f t (h .1), filled-in-scope inner outer σ f e (h .2))
 
 module _ (𝓜 : Meaning) where
+  -- Lawful terms, filled in, keep the numbers lawful.
   filled-var-lawful : (k : ℕ) (σ : List Term) → ((j : ℕ) → LawfulTerm 𝓜 (term-at σ j)) → (kept : Term) (i : ℕ) → LawfulTerm 𝓜 kept →
       LawfulTerm 𝓜 (fill-var k σ kept i)
   filled-var-lawful zero σ f kept i h = f i
   filled-var-lawful (suc k) σ f kept zero h = h
   filled-var-lawful (suc k) σ f kept (suc i) h = filled-var-lawful k σ f kept i h
 
-  -- Lawful terms, filled in, keep the numbers lawful.
   filled-lawful : (k : ℕ) (σ : List Term) → ((j : ℕ) → LawfulTerm 𝓜 (term-at σ j)) → (t : Term) → LawfulTerm 𝓜 t → LawfulTerm 𝓜 (fill k σ t)
   filled-lawful k σ f (num c) h = h
   filled-lawful k σ f (truth b) h = tt
@@ -90,10 +88,6 @@ module _ (𝓜 : Meaning) where
       only zero = h
       only (suc j) = (tt, tt)
 
-  branch-well-formed : (b : Bool) (t e : Term) → WellFormed 𝓜 [] t → WellFormed 𝓜 [] e → WellFormed 𝓜 [] (branch b t e)
-  branch-well-formed true t e h k = h
-  branch-well-formed false t e h k = k
-
   -- A contraction keeps a term with no inputs well formed.
   contraction-well-formed : {t u : Term} → Contraction 𝓜 t u → WellFormed 𝓜 [] t → WellFormed 𝓜 [] u
   contraction-well-formed (c-binop {o = o} {a = a} {b = b} e) (n, l) = (tt, subst (InOrder (𝓜 .lawful)) e (𝓜 .closed o a b (l .0) (l .1)))
@@ -101,7 +95,7 @@ module _ (𝓜 : Meaning) where
   contraction-well-formed (c-eq-truth e) h = (tt, tt)
   contraction-well-formed (c-app {x = x} {b = b} {v = v} i e) (n, l) = subst (WellFormed 𝓜 []) e (body-well-formed x v b (n .1, l .1) (n .0, l .0))
   contraction-well-formed (c-let {x = x} {v = v} {b = b} i e) (n, l) = subst (WellFormed 𝓜 []) e (body-well-formed x v b (n .0, l .0) (n .1, l .1))
-  contraction-well-formed (c-if {b = b} {t = t} {e = f} e) (n, l) = subst (WellFormed 𝓜 []) e (branch-well-formed b t f (n .1, l .1) (n .2, l .2))
+  contraction-well-formed (c-if {b = b} e) (n, l) = subst (WellFormed 𝓜 []) e (of-branch (WellFormed 𝓜 []) b (n .1, l .1) (n .2, l .2))
 
   -- So does a reduction, and a sequence of them.
   reduct-well-formed : {t u : Term} → Reduces 𝓜 t u → WellFormed 𝓜 [] t → WellFormed 𝓜 [] u
@@ -127,8 +121,7 @@ module _ (𝓜 : Meaning) where
 
 pub shown-terms-are-well-formed : ShownTermsAreWellFormed
 shown-terms-are-well-formed 𝓜 names cs t w h n s d =
-    sequence-well-formed 𝓜 (shows-exactly-the-reductions 𝓜 cs t (contractions d) (show s) .1 (n, s, d, refl, refl))
-    (filled-well-formed 𝓜 names (reify-env (input-env cs)) (inputs-well-formed 𝓜 cs h) t w)
+    sequence-well-formed 𝓜 (shown-reduct 𝓜 cs t d) (filled-well-formed 𝓜 names (reify-env (input-env cs)) (inputs-well-formed 𝓜 cs h) t w)
 
 pub every-stop-shows-a-well-formed-term : EveryStopShowsAWellFormedTerm
 every-stop-shows-a-well-formed-term 𝓜 L names cs t g w h =

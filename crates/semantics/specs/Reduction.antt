@@ -37,8 +37,8 @@ pub data Contraction (𝓜 : Meaning) : Term → Term → Type 0 where
   -- An If of a boolean becomes the branch that it chooses.
   c-if : {b : Bool} {t e u : Term} → branch b t e ≡ u → Contraction 𝓜 (if-then (truth b) t e) u
 
--- `Reduces 𝓜 t t′`: one contraction, at the node whose turn it is in the order of the listing, makes t′ of t. Terms that
--- reduce have no inputs.
+-- `Reduces 𝓜 t t′`: one contraction, at the node whose turn it is in the order of the listing, makes t′ of t. It is meant
+-- for terms with no inputs: then a value that is filled in is closed.
 pub data Reduces (𝓜 : Meaning) : Term → Term → Type 0 where
   -- The node at the top contracts.
   r-top : {t t′ : Term} → Contraction 𝓜 t t′ → Reduces 𝓜 t t′
@@ -126,8 +126,8 @@ ShowsExactlyTheReductions = (𝓜 : Meaning) (cs : List ℕ) (t : Term) (k : ℕ
     Reductions 𝓜 k (close (input-env cs) t) u ↔
     ((n : ℕ) × (s : State) × (d : Steps 𝓜 n (start t cs) s) × (contractions d ≡ k) × (show s ≡ u))
 
--- Wherever a run stops, by whatever grant and limits, it shows the term that as many contractions lead to as its steps
--- made.
+-- Wherever a run stops, by whatever grant and limits, it shows the term that one contraction for each of its steps that
+-- contract leads to.
 abbrev pub EveryStopShowsAReduct : Type 0
 EveryStopShowsAReduct = (𝓜 : Meaning) (L : Bounds) (cs : List ℕ) (t : Term) (g : ℕ) →
     let s = machine-run 𝓜 L g (start t cs) .state in

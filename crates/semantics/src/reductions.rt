@@ -24,7 +24,7 @@ pub fn shows_exactly_the_reductions() -> u8
     0
 }
 
-/// Wherever a run stops, it shows the term that as many contractions lead to as its steps made.
+/// Wherever a run stops, it shows the term that one contraction for each of its steps that contract leads to.
 pub fn every_stop_shows_a_reduct() -> u8
     ensures { λ _. ⌜ EveryStopShowsAReduct ⌝ }
 {
