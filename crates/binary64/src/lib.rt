@@ -7,7 +7,7 @@ use domain::Domain;
 use domain::Fault;
 use domain::Op;
 ghost use mathlib.Core.Path.{_≡_};
-ghost use mathlib.Core.Bool.{cond};
+ghost use mathlib.Core.Bool.{cond, true};
 ghost use Rattle.std.specs.Floats.{finite};
 ghost use Rattle.std.specs.Slices.{found};
 ghost use Rattle.std.specs.declared.option.Option.the-variants.{Some, None};
@@ -32,13 +32,22 @@ fn is_finite(code: u64) -> bool
     code % WITHOUT_SIGN < INFINITY
 }
 
+/// The number of a finite code. Written back, it gives the same code.
+fn finite_number(code: u64) -> f64
+    requires { ⌜ finite (numberOf code) ≡ true ⌝ }
+    ensures value { λ r. ⌜ r ≡ numberOf code ⌝ }
+    ensures back { λ r. ⌜ codeOf r ≡ code ⌝ }
+{
+    f64::from_bits(code)
+}
+
 /// The number of a code, where it is finite. Written back, it gives the same code.
 pub fn number_of(code: u64) -> Option<f64>
     ensures value { λ r. ⌜ r ≡ cond (finite (numberOf code)) (Some (numberOf code)) None ⌝ }
     ensures back { λ r. ⌜ found r (λ x. codeOf x ≡ code) ⌝ }
 {
     if is_finite(code) {
-        Some(f64::from_bits(code))
+        Some(finite_number(code))
     } else {
         None
     }
