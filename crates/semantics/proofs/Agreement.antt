@@ -11,11 +11,12 @@ use Rattle.std.specs.declared.option.Option.{Option}
 use Rattle.std.specs.declared.option.Option.the-variants.{Some, None}
 use Rattle.domain.specs.declared.Fault.{Fault}
 use Rattle.domain.specs.Meaning.{Meaning}
+use Rattle.semantics.specs.declared.layout.Instruction.{Instruction}
+use Rattle.semantics.specs.declared.layout.Instruction.the-variants.{End, Return}
 use Rattle.semantics.specs.Terms.{Term, lam}
 use Rattle.semantics.specs.Values.{Value, Env, input-env, Outcome, yields, fails}
 use Rattle.semantics.specs.Evaluation.{Evals}
 use Rattle.semantics.specs.Substitution.{fill, reify, reify-env}
-use Rattle.semantics.specs.Instructions.{Instruction, end, return}
 use Rattle.semantics.specs.Running.{goes, ends, faults, Bounds, Halt, running, ended, failed, halted, Report, reports, one-unit-more, with-one-left}
 use Rattle.semantics.specs.Machine.{Held, HeldEnv, Cell, val, State, at, step, no-room, held-inputs, start, machine-run, Steps, here, more}
 use Rattle.semantics.specs.Showing.{show-held, show-env}
@@ -33,7 +34,7 @@ mutual
   shown-fits fits-number = refl
   shown-fits fits-boolean = refl
   shown-fits (fits-function {x = x} {b = b} {p = p} {ρ = ρ} {ρ′ = ρ′} k fs) =
-      ap (lam x) (read-emit (suc p) b (return ∷ k) 1 (show-env ρ′) [] [] ∙ ap (λ σ. fill 1 σ b) (shown-env-fits fs))
+      ap (lam x) (read-emit (suc p) b (Return ∷ k) 1 (show-env ρ′) [] [] ∙ ap (λ σ. fill 1 σ b) (shown-env-fits fs))
 
   pub shown-env-fits : {ρ′ : HeldEnv} {ρ : Env} → FitsEnv ρ′ ρ → show-env ρ′ ≡ reify-env ρ
   shown-env-fits fits-none = refl
@@ -97,7 +98,7 @@ module _ (𝓜 : Meaning) (L : Bounds) where
 
     -- Such a run comes to the outcome, or halts before.
     on-outcome : {o : Outcome} {j : ℕ} → Evals 𝓜 (input-env cs) 0 t o j → (N : ℕ) → j ≤ N → OnOutcome o j (ran N)
-    on-outcome {o = o} {j = j} e N le = go (end-or-fault (simulates 𝓜 e (held-inputs cs) (inputs-fit cs) (end ∷ []) [] (length cs)))
+    on-outcome {o = o} {j = j} e N le = go (end-or-fault (simulates 𝓜 e (held-inputs cs) (inputs-fit cs) (End ∷ []) [] (length cs)))
       where
         at-end : {s : State} {h : Held} {v : Value} → step 𝓜 s ≡ ends h → o ≡ yields v → Fits h v → OverSteps j (start t cs) s (N - j) (ran N) →
             OnOutcome o j (ran N)
@@ -114,7 +115,7 @@ module _ (𝓜 : Meaning) (L : Bounds) where
             let R′ : RoomFor 𝓜 L (start t cs) j = subst (RoomFor 𝓜 L (start t cs)) (sym u) (room-for-last 𝓜 L d (faults-have-room 𝓜 L s q) R) in
             comes-fault is R′ (e ∙ ap (plus m) (run-faults (step 𝓜) (no-room L) s φ p q (N - j)) ∙ same-report (failed φ p) s z)
 
-        go : EndOrFault (start t cs) (end ∷ []) (held-inputs cs) [] o j → OnOutcome o j (ran N)
+        go : EndOrFault (start t cs) (End ∷ []) (held-inputs cs) [] o j → OnOutcome o j (ran N)
         go (inl (v, h, m, is, d, f)) = at-end refl is f (over-steps d (N - j) N (omega arith))
         go (inr (φ, p, s, m, is, u, d, q)) = at-fault u d q is (over-steps d (suc (N - j)) N (omega arith))
 
@@ -172,7 +173,7 @@ module _ (𝓜 : Meaning) (L : Bounds) where
 
     -- The verdict on every run.
     judge : (N : ℕ) → VerdictOn N (ran N)
-    judge N = go (makes-progress-within 𝓜 N (input-env cs) 0 t (held-inputs cs) (inputs-fit cs) (end ∷ []) [] (length cs))
+    judge N = go (makes-progress-within 𝓜 N (input-env cs) 0 t (held-inputs cs) (inputs-fit cs) (End ∷ []) [] (length cs))
       where
         go : Progress 𝓜 N (start t cs) (input-env cs) 0 t → VerdictOn N (ran N)
         go (done e le) = verdict-on-outcome N e le (on-outcome e N le)

@@ -4,10 +4,11 @@ use mathlib.Core.List.{List, [], _∷_}
 use Prim.Native.Nat.{ℕ, suc, _+_, _*_, _≤_}
 use native.Mathlib.Omega.{arith}
 use lib.ListN.{length}
-use Rattle.semantics.specs.Terms.{Term, num, truth, var, binop, eq, app, lam, let-in, if-then, size}
 use Rattle.semantics.specs.declared.layout.Node.{Node}
+use Rattle.semantics.specs.declared.layout.Instruction.{Instruction}
+use Rattle.semantics.specs.declared.layout.Instruction.the-variants.{End, Choose}
+use Rattle.semantics.specs.Terms.{Term, num, truth, var, binop, eq, app, lam, let-in, if-then, size}
 use Rattle.semantics.specs.Listing.{listing-before}
-use Rattle.semantics.specs.Instructions.{Instruction, end, choose}
 use Rattle.semantics.specs.Translation.{code-size, emit}
 use Rattle.semantics.specs.Sizes.{SizesAreLengths, most-records, CodeIsBounded, BoundIsReached, BoundedLength, BoundedCode, LengthsAreBounded}
 
@@ -39,7 +40,7 @@ listing-length (if-then c t f) ns e = ap suc (listing-length c _ (listing-length
 pub sizes-are-lengths : SizesAreLengths
 sizes-are-lengths = record {
   records = λ t. listing-length t [] refl ∙ omega arith;
-  instructions = λ t. emit-length t 0 (end ∷ []) refl ∙ omega arith;
+  instructions = λ t. emit-length t 0 (End ∷ []) refl ∙ omega arith;
 }
 
 -- Three records bring at most seven instructions: an If with two leaves for its branches does.
@@ -55,7 +56,7 @@ code-size-bounded (let-in x a b) = omega (arith, code-size-bounded a, code-size-
 code-size-bounded (if-then c t e) = omega (arith, code-size-bounded c, code-size-bounded t, code-size-bounded e)
 
 pub code-is-bounded : CodeIsBounded
-code-is-bounded t le = omega (arith, emit-length t 0 (end ∷ []) refl, code-size-bounded t)
+code-is-bounded t le = omega (arith, emit-length t 0 (End ∷ []) refl, code-size-bounded t)
 
 pub bound-is-reached : BoundIsReached
 bound-is-reached = (refl, refl)
@@ -87,8 +88,8 @@ emit-bounded (app f a) p k le h = emit-bounded f _ _ (omega arith) (emit-bounded
 emit-bounded (lam x b) p k le h = (body-bounded b (omega arith), emit-bounded b _ _ (omega arith) (tt, h))
 emit-bounded (let-in x a b) p k le h = emit-bounded a _ _ (omega arith) (tt, emit-bounded b _ _ (omega arith) (tt, h))
 emit-bounded (if-then c t e) p k le h =
-    let after : BoundedCode (emit (suc p) c (choose p ∷ k)) = emit-bounded c _ _ (omega arith) (tt, h) in
+    let after : BoundedCode (emit (suc p) c (Choose p ∷ k)) = emit-bounded c _ _ (omega arith) (tt, h) in
     (body-bounded t (omega arith), emit-bounded t _ _ (omega arith) (tt, (body-bounded e (omega arith), emit-bounded e _ _ (omega arith) (tt, after))))
 
 pub lengths-are-bounded : LengthsAreBounded
-lengths-are-bounded t le = emit-bounded t 0 (end ∷ []) le (tt, tt)
+lengths-are-bounded t le = emit-bounded t 0 (End ∷ []) le (tt, tt)

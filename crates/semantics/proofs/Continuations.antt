@@ -6,7 +6,8 @@ use Rattle.domain.specs.declared.Op.{Op}
 use Rattle.semantics.specs.Terms.{Term, binop, eq, app, let-in}
 use Rattle.semantics.specs.Values.{Value, Env, _▸_, look}
 use Rattle.semantics.specs.Substitution.{fill}
-use Rattle.semantics.specs.Instructions.{Instruction, end, push-thunk, operate, compare, bind, unbind, apply, return, choose}
+use Rattle.semantics.specs.declared.layout.Instruction.{Instruction}
+use Rattle.semantics.specs.declared.layout.Instruction.the-variants.{End, PushThunk, Operate, Compare, Bind, Unbind, Apply, Return, Choose}
 use Rattle.semantics.specs.Translation.{code-size, emit}
 use Rattle.semantics.specs.Machine.{Held, h-number, h-boolean, closure, HeldEnv, _◂_, Cell, val, thunk, return-to, State, at, fetch}
 use Rattle.semantics.specs.Showing.{Mark, in-let, holding, read, show-held, show-env, own-cells, through-frames}
@@ -30,23 +31,23 @@ good-more h ρ (v, f) (ρ′, fs) = (v ▸ ρ′, fits-more f fs)
 
 -- The code, environment and cells that wait for a value on top: what is left of each node under way.
 pub data Kont : List Instruction → HeldEnv → List Cell → Type 0 where
-  k-end : {ρ : HeldEnv} {k : List Instruction} → Kont (end ∷ k) ρ []
-  k-return : {ρ ρ′ : HeldEnv} {k k′ : List Instruction} {c : List Cell} → GoodEnv ρ → Kont k ρ c → Kont (return ∷ k′) ρ′ (return-to k ρ ∷ c)
+  k-end : {ρ : HeldEnv} {k : List Instruction} → Kont (End ∷ k) ρ []
+  k-return : {ρ ρ′ : HeldEnv} {k k′ : List Instruction} {c : List Cell} → GoodEnv ρ → Kont k ρ c → Kont (Return ∷ k′) ρ′ (return-to k ρ ∷ c)
   k-binop-right : (o : Op) (p q : ℕ) (r : Term) {ρ : HeldEnv} {k : List Instruction} {c : List Cell} → GoodEnv ρ → Kont k ρ c →
-      Kont (emit q r (operate o p ∷ k)) ρ c
+      Kont (emit q r (Operate o p ∷ k)) ρ c
   k-binop-left : (o : Op) (p : ℕ) {h : Held} {ρ : HeldEnv} {k : List Instruction} {c : List Cell} → Good h → Kont k ρ c →
-      Kont (operate o p ∷ k) ρ (val h ∷ c)
+      Kont (Operate o p ∷ k) ρ (val h ∷ c)
   k-eq-right : (p q : ℕ) (r : Term) {ρ : HeldEnv} {k : List Instruction} {c : List Cell} → GoodEnv ρ → Kont k ρ c →
-      Kont (emit q r (compare p ∷ k)) ρ c
-  k-eq-left : (p : ℕ) {h : Held} {ρ : HeldEnv} {k : List Instruction} {c : List Cell} → Good h → Kont k ρ c → Kont (compare p ∷ k) ρ (val h ∷ c)
-  k-app-right : (p q : ℕ) (r : Term) {ρ : HeldEnv} {k : List Instruction} {c : List Cell} → GoodEnv ρ → Kont k ρ c → Kont (emit q r (apply p ∷ k)) ρ c
+      Kont (emit q r (Compare p ∷ k)) ρ c
+  k-eq-left : (p : ℕ) {h : Held} {ρ : HeldEnv} {k : List Instruction} {c : List Cell} → Good h → Kont k ρ c → Kont (Compare p ∷ k) ρ (val h ∷ c)
+  k-app-right : (p q : ℕ) (r : Term) {ρ : HeldEnv} {k : List Instruction} {c : List Cell} → GoodEnv ρ → Kont k ρ c → Kont (emit q r (Apply p ∷ k)) ρ c
   k-app-left : (p : ℕ) {h : Held} {ρ : HeldEnv} {k : List Instruction} {c : List Cell} → Good h → GoodEnv ρ → Kont k ρ c →
-      Kont (apply p ∷ k) ρ (val h ∷ c)
+      Kont (Apply p ∷ k) ρ (val h ∷ c)
   k-let-bound : (x q : ℕ) (b : Term) {ρ : HeldEnv} {k : List Instruction} {c : List Cell} → GoodEnv ρ → Kont k ρ c →
-      Kont (bind x ∷ emit q b (unbind ∷ k)) ρ c
-  k-let-body : {h : Held} {ρ : HeldEnv} {k : List Instruction} {c : List Cell} → Kont k ρ c → Kont (unbind ∷ k) (h ◂ ρ) c
+      Kont (Bind x ∷ emit q b (Unbind ∷ k)) ρ c
+  k-let-body : {h : Held} {ρ : HeldEnv} {k : List Instruction} {c : List Cell} → Kont k ρ c → Kont (Unbind ∷ k) (h ◂ ρ) c
   k-if : (p qt qe : ℕ) (t e : Term) (r₁ r₂ : List Instruction) {ρ : HeldEnv} {k : List Instruction} {c : List Cell} → GoodEnv ρ → Kont k ρ c →
-      Kont (choose p ∷ k) ρ (thunk (emit qe e (return ∷ r₂)) ρ ∷ thunk (emit qt t (return ∷ r₁)) ρ ∷ c)
+      Kont (Choose p ∷ k) ρ (thunk (emit qe e (Return ∷ r₂)) ρ ∷ thunk (emit qt t (Return ∷ r₁)) ρ ∷ c)
 
 -- A state of a run: about to work a term out, with a value on top, or between an If's two thunks.
 pub data RunState : State → Type 0 where
@@ -55,7 +56,7 @@ pub data RunState : State → Type 0 where
   on-value : {h : Held} {ρ : HeldEnv} {k : List Instruction} {c : List Cell} {m : ℕ} → Good h → Kont k ρ c → RunState (at k ρ (val h ∷ c) m)
   between-thunks : (p qe : ℕ) (t e q : Term) (qt : ℕ) (r₁ : List Instruction) {ρ : HeldEnv} {k : List Instruction} {c : List Cell} {m : ℕ} →
       GoodEnv ρ → Kont k ρ c →
-      RunState (at (push-thunk (suc (code-size e)) ∷ emit qe e (return ∷ emit (suc p) q (choose p ∷ k))) ρ (thunk (emit qt t (return ∷ r₁)) ρ ∷ c) m)
+      RunState (at (PushThunk (suc (code-size e)) ∷ emit qe e (Return ∷ emit (suc p) q (Choose p ∷ k))) ρ (thunk (emit qt t (Return ∷ r₁)) ρ ∷ c) m)
 
 -- The shown term, when T stands for what is to come on top.
 abbrev pub wrap : List Instruction → HeldEnv → List Cell → Term → Term
@@ -83,25 +84,25 @@ module _ (R : Term → Term → Type 0) (C : Congruent R) where
   wrap-congruent (k-binop-right o p q r {ρ = ρ} {k = k} {c = c} g K) T T′ h =
       along (opened T) (opened T′) (wrap-congruent K _ _ (C .in-binop-left h))
     where
-      opened : (T : Term) → wrap (emit q r (operate o p ∷ k)) ρ c T ≡ wrap k ρ c (binop o T (fill 0 (show-env ρ) r))
-      opened T = frame-read q r (operate o p ∷ k) ρ [] (T ∷ own-cells c) c
+      opened : (T : Term) → wrap (emit q r (Operate o p ∷ k)) ρ c T ≡ wrap k ρ c (binop o T (fill 0 (show-env ρ) r))
+      opened T = frame-read q r (Operate o p ∷ k) ρ [] (T ∷ own-cells c) c
   wrap-congruent (k-binop-left o p {h = v} g K) T T′ h = wrap-congruent K _ _ (C .in-binop-right (held-shows-value v) h)
   wrap-congruent (k-eq-right p q r {ρ = ρ} {k = k} {c = c} g K) T T′ h =
       along (opened T) (opened T′) (wrap-congruent K _ _ (C .in-eq-left h))
     where
-      opened : (T : Term) → wrap (emit q r (compare p ∷ k)) ρ c T ≡ wrap k ρ c (eq T (fill 0 (show-env ρ) r))
-      opened T = frame-read q r (compare p ∷ k) ρ [] (T ∷ own-cells c) c
+      opened : (T : Term) → wrap (emit q r (Compare p ∷ k)) ρ c T ≡ wrap k ρ c (eq T (fill 0 (show-env ρ) r))
+      opened T = frame-read q r (Compare p ∷ k) ρ [] (T ∷ own-cells c) c
   wrap-congruent (k-eq-left p {h = v} g K) T T′ h = wrap-congruent K _ _ (C .in-eq-right (held-shows-value v) h)
   wrap-congruent (k-app-right p q r {ρ = ρ} {k = k} {c = c} g K) T T′ h =
       along (opened T) (opened T′) (wrap-congruent K _ _ (C .in-app-left h))
     where
-      opened : (T : Term) → wrap (emit q r (apply p ∷ k)) ρ c T ≡ wrap k ρ c (app T (fill 0 (show-env ρ) r))
-      opened T = frame-read q r (apply p ∷ k) ρ [] (T ∷ own-cells c) c
+      opened : (T : Term) → wrap (emit q r (Apply p ∷ k)) ρ c T ≡ wrap k ρ c (app T (fill 0 (show-env ρ) r))
+      opened T = frame-read q r (Apply p ∷ k) ρ [] (T ∷ own-cells c) c
   wrap-congruent (k-app-left p {h = v} g gs K) T T′ h = wrap-congruent K _ _ (C .in-app-right (held-shows-value v) h)
   wrap-congruent (k-let-bound x q b {ρ = ρ} {k = k} {c = c} g K) T T′ h =
       along (opened T) (opened T′) (wrap-congruent K _ _ (C .in-bound h))
     where
-      opened : (T : Term) → wrap (bind x ∷ emit q b (unbind ∷ k)) ρ c T ≡ wrap k ρ c (let-in x T (fill 1 (show-env ρ) b))
-      opened T = frame-read q b (unbind ∷ k) ρ (in-let x T ∷ []) (own-cells c) c
+      opened : (T : Term) → wrap (Bind x ∷ emit q b (Unbind ∷ k)) ρ c T ≡ wrap k ρ c (let-in x T (fill 1 (show-env ρ) b))
+      opened T = frame-read q b (Unbind ∷ k) ρ (in-let x T ∷ []) (own-cells c) c
   wrap-congruent (k-let-body K) T T′ h = wrap-congruent K T T′ h
   wrap-congruent (k-if p qt qe t e r₁ r₂ g K) T T′ h = wrap-congruent K _ _ (C .in-condition h)

@@ -3,8 +3,9 @@ use mathlib.Core.Path.{_≡_, refl, _∙_, subst}
 use mathlib.Core.List.{List, [], _∷_, _++_}
 use Prim.Native.Nat.{ℕ, zero, suc}
 use Rattle.semantics.specs.declared.layout.Node.{Node}
+use Rattle.semantics.specs.declared.layout.Label.the-variants.{Num, Truth, Var, Binop, Eq, App, Lam, Let, If}
 use Rattle.semantics.specs.Terms.{Term, num, truth, var, binop, eq, app, lam, let-in, if-then}
-use Rattle.semantics.specs.Listing.{num-node, truth-node, var-node, binop-node, eq-node, app-node, lam-node, let-node, if-node, record-of, listing-before}
+use Rattle.semantics.specs.Listing.{record-of, listing-before}
 use Rattle.semantics.specs.Counting.{owed-after, too-early, over, count, InTable, in-table, AllInTable, CountingDecides}
 use Rattle.semantics.proofs.Clash.{clash}
 
@@ -34,15 +35,15 @@ two-children f n {ns = ns} {m = m} is (tree l (tree r {row = row} F)) = subst (F
 
 -- The record of any kind in front of its children makes one listing of them.
 root : {n : Node} {ns : List Node} (m : ℕ) (row : List Node) → InTable n → Forest ns (owed-after (n .kind) m) row → Forest ns (suc m) (n ∷ row)
-root m row (in-table (num-node c)) F = tree (num c) F
-root m row (in-table (truth-node b)) F = tree (truth b) F
-root m row (in-table (var-node x i)) F = tree (var x i) F
-root m row (in-table (binop-node o)) F = two-children (binop o) (record-of (binop-node o)) (λ l r row. refl) F
-root m row (in-table eq-node) F = two-children eq (record-of eq-node) (λ l r row. refl) F
-root m row (in-table app-node) F = two-children app (record-of app-node) (λ l r row. refl) F
-root m row (in-table (lam-node x)) (tree b F) = tree (lam x b) F
-root m row (in-table (let-node x)) F = two-children (let-in x) (record-of (let-node x)) (λ l r row. refl) F
-root m row (in-table if-node) (tree c (tree t (tree e F))) = tree (if-then c t e) F
+root m row (in-table (Num c)) F = tree (num c) F
+root m row (in-table (Truth b)) F = tree (truth b) F
+root m row (in-table (Var x i)) F = tree (var x i) F
+root m row (in-table (Binop o)) F = two-children (binop o) (record-of (Binop o)) (λ l r row. refl) F
+root m row (in-table Eq) F = two-children eq (record-of Eq) (λ l r row. refl) F
+root m row (in-table App) F = two-children app (record-of App) (λ l r row. refl) F
+root m row (in-table (Lam x)) (tree b F) = tree (lam x b) F
+root m row (in-table (Let x)) F = two-children (let-in x) (record-of (Let x)) (λ l r row. refl) F
+root m row (in-table If) (tree c (tree t (tree e F))) = tree (if-then c t e) F
 
 over-injective : {ns ns′ : List Node} → over ns ≡ over ns′ → ns ≡ ns′
 over-injective e = cc
@@ -56,7 +57,7 @@ forest-of (n ∷ row) (suc m) ns h e = root m row (h .0) (forest-of row (owed-af
 -- m Nums.
 zeros : ℕ → List Node
 zeros zero = []
-zeros (suc m) = record-of (num-node 0) ∷ zeros m
+zeros (suc m) = record-of (Num 0) ∷ zeros m
 
 zeros-forest : (m : ℕ) → Forest [] m (zeros m)
 unfolding zeros
@@ -66,7 +67,7 @@ zeros-forest (suc m) = tree (num 0) (zeros-forest m)
 -- A row that ends too early can be completed, with at least one record.
 completed : (row : List Node) (m : ℕ) → AllInTable row → count m row ≡ too-early → (n : Node) × (ns : List Node) × Forest [] m (row ++ (n ∷ ns))
 completed row zero h e = clash cc
-completed [] (suc m) h e = (record-of (num-node 0), zeros m, tree (num 0) (zeros-forest m))
+completed [] (suc m) h e = (record-of (Num 0), zeros m, tree (num 0) (zeros-forest m))
 completed (x ∷ row) (suc m) h e =
     let (n, ns, F) = completed row (owed-after (x .kind) m) (h .1) e in (n, ns, root m (row ++ (n ∷ ns)) (h .0) F)
 

@@ -4,8 +4,9 @@ use mathlib.Core.List.{List, [], _∷_}
 use Prim.Native.Nat.{ℕ, zero, suc, _+_, _*_, _≤_, _<_, max}
 use native.Mathlib.Omega.{arith}
 use Rattle.domain.specs.declared.Op.{Op}
+use Rattle.semantics.specs.declared.layout.Instruction.{Instruction}
+use Rattle.semantics.specs.declared.layout.Instruction.the-variants.{End, Operate, Compare, Bind, Unbind, Apply, Return, Choose}
 use Rattle.semantics.specs.Terms.{Term, num, truth, var, binop, eq, app, lam, let-in, if-then, size}
-use Rattle.semantics.specs.Instructions.{Instruction, end, operate, compare, bind, unbind, apply, return, choose}
 use Rattle.semantics.specs.Translation.{emit}
 use Rattle.semantics.specs.Sizes.{most-records}
 use Rattle.semantics.specs.Machine.{Held, h-number, h-boolean, closure, HeldEnv, ∅, _◂_, Cell, val, thunk, return-to, fetch, held-inputs}
@@ -52,7 +53,7 @@ mutual
     small-number : {c : ℕ} → Small (h-number c)
     small-boolean : {b : Bool} → Small (h-boolean b)
     small-closure : {x : ℕ} (p : ℕ) (b : Term) (k : List Instruction) {ρ : HeldEnv} → size b < most-records → SmallEnv ρ →
-        Small (closure x (emit p b (return ∷ k)) ρ)
+        Small (closure x (emit p b (Return ∷ k)) ρ)
 
   pub data SmallEnv : HeldEnv → Type 0 where
     small-none : SmallEnv ∅
@@ -70,24 +71,24 @@ small-inputs (c ∷ cs) = small-more small-number (small-inputs cs)
 
 -- The instructions that take two values.
 pub data Joins : Instruction → Type 0 where
-  joins-operate : {o : Op} {p : ℕ} → Joins (operate o p)
-  joins-compare : {p : ℕ} → Joins (compare p)
-  joins-apply : {p : ℕ} → Joins (apply p)
+  joins-operate : {o : Op} {p : ℕ} → Joins (Operate o p)
+  joins-compare : {p : ℕ} → Joins (Compare p)
+  joins-apply : {p : ℕ} → Joins (Apply p)
 
 -- The code, environment and cells that wait for a value on top: what is left of each node under way.
 pub data Waits : List Instruction → HeldEnv → List Cell → Type 0 where
-  before-end : {ρ : HeldEnv} {k : List Instruction} → Waits (end ∷ k) ρ []
-  before-return : {ρ ρ′ : HeldEnv} {k k′ : List Instruction} {c : List Cell} → Waits k ρ c → Waits (return ∷ k′) ρ′ (return-to k ρ ∷ c)
+  before-end : {ρ : HeldEnv} {k : List Instruction} → Waits (End ∷ k) ρ []
+  before-return : {ρ ρ′ : HeldEnv} {k k′ : List Instruction} {c : List Cell} → Waits k ρ c → Waits (Return ∷ k′) ρ′ (return-to k ρ ∷ c)
   for-first : {i : Instruction} (q : ℕ) (r : Term) {ρ : HeldEnv} {k : List Instruction} {c : List Cell} → Joins i → size r ≤ most-records →
       SmallEnv ρ → Waits k ρ c → Waits (emit q r (i ∷ k)) ρ c
   for-second : {i : Instruction} {h : Held} {ρ : HeldEnv} {k : List Instruction} {c : List Cell} → Joins i → Small h → Waits k ρ c →
       Waits (i ∷ k) ρ (val h ∷ c)
   for-bound : (x q : ℕ) (b : Term) {ρ : HeldEnv} {k : List Instruction} {c : List Cell} → size b ≤ most-records → SmallEnv ρ → Waits k ρ c →
-      Waits (bind x ∷ emit q b (unbind ∷ k)) ρ c
-  before-unbind : {h : Held} {ρ : HeldEnv} {k : List Instruction} {c : List Cell} → Waits k ρ c → Waits (unbind ∷ k) (h ◂ ρ) c
+      Waits (Bind x ∷ emit q b (Unbind ∷ k)) ρ c
+  before-unbind : {h : Held} {ρ : HeldEnv} {k : List Instruction} {c : List Cell} → Waits k ρ c → Waits (Unbind ∷ k) (h ◂ ρ) c
   for-condition : {p : ℕ} (qt qe : ℕ) (t e : Term) (r₁ r₂ : List Instruction) {ρ : HeldEnv} {k : List Instruction} {c : List Cell} →
       size t ≤ most-records → size e ≤ most-records → SmallEnv ρ → Waits k ρ c →
-      Waits (choose p ∷ k) ρ (thunk (emit qe e (return ∷ r₂)) ρ ∷ thunk (emit qt t (return ∷ r₁)) ρ ∷ c)
+      Waits (Choose p ∷ k) ρ (thunk (emit qe e (Return ∷ r₂)) ρ ∷ thunk (emit qt t (Return ∷ r₁)) ρ ∷ c)
 
 -- The most units that all frames under way still take once the value is there, but for bodies yet to be entered.
 abbrev pub units-left : {k : List Instruction} {ρ : HeldEnv} {c : List Cell} → Waits k ρ c → ℕ

@@ -4,8 +4,9 @@ use mathlib.Core.Bool.{cond}
 use mathlib.Core.List.{List, [], _∷_}
 use lib.Dec.{eqb}
 use Rattle.semantics.specs.declared.layout.Node.{Node}
+use Rattle.semantics.specs.declared.layout.Label.the-variants.{Num, Truth, Var, Binop, Eq, App, Lam, Let, If}
 use Rattle.semantics.specs.Terms.{Term, num, truth, var, binop, eq, app, lam, let-in, if-then}
-use Rattle.semantics.specs.Listing.{num-node, truth-node, var-node, binop-node, eq-node, app-node, lam-node, let-node, if-node, kind-num, kind-truth, kind-var, kind-binop, kind-eq, kind-app, kind-lam, kind-let, record-of, listing-before}
+use Rattle.semantics.specs.Listing.{kind-num, kind-truth, kind-var, kind-binop, kind-eq, kind-app, kind-lam, kind-let, record-of, listing-before}
 use Rattle.semantics.specs.Injective.{ListingIsInjective}
 use Rattle.semantics.specs.Showing.{top, rest}
 use Rattle.semantics.specs.ReadingBack.{bit-back, op-back, index-back}
@@ -31,16 +32,16 @@ parse (n ∷ ns) = build n (parse ns)
 
 -- A listing is read as its term, upon what the records behind it are read as.
 parse-listing : (t : Term) (ns : List Node) {s : List Term} → parse ns ≡ s → parse (listing-before t ns) ≡ t ∷ s
-parse-listing (num c) ns e = ap (build (record-of (num-node c))) e
-parse-listing (truth b) ns {s = s} e = ap (build (record-of (truth-node b))) e ∙ ap (λ z. truth z ∷ s) (bit-again b)
-parse-listing (var x i) ns e = ap (build (record-of (var-node x i))) e
+parse-listing (num c) ns e = ap (build (record-of (Num c))) e
+parse-listing (truth b) ns {s = s} e = ap (build (record-of (Truth b))) e ∙ ap (λ z. truth z ∷ s) (bit-again b)
+parse-listing (var x i) ns e = ap (build (record-of (Var x i))) e
 parse-listing (binop o l r) ns {s = s} e =
-    ap (build (record-of (binop-node o))) (parse-listing l _ (parse-listing r ns e)) ∙ ap (λ z. binop z l r ∷ s) (op-again o)
-parse-listing (eq l r) ns e = ap (build (record-of eq-node)) (parse-listing l _ (parse-listing r ns e))
-parse-listing (app f a) ns e = ap (build (record-of app-node)) (parse-listing f _ (parse-listing a ns e))
-parse-listing (lam x b) ns e = ap (build (record-of (lam-node x))) (parse-listing b ns e)
-parse-listing (let-in x a b) ns e = ap (build (record-of (let-node x))) (parse-listing a _ (parse-listing b ns e))
-parse-listing (if-then c t f) ns e = ap (build (record-of if-node)) (parse-listing c _ (parse-listing t _ (parse-listing f ns e)))
+    ap (build (record-of (Binop o))) (parse-listing l _ (parse-listing r ns e)) ∙ ap (λ z. binop z l r ∷ s) (op-again o)
+parse-listing (eq l r) ns e = ap (build (record-of Eq)) (parse-listing l _ (parse-listing r ns e))
+parse-listing (app f a) ns e = ap (build (record-of App)) (parse-listing f _ (parse-listing a ns e))
+parse-listing (lam x b) ns e = ap (build (record-of (Lam x))) (parse-listing b ns e)
+parse-listing (let-in x a b) ns e = ap (build (record-of (Let x))) (parse-listing a _ (parse-listing b ns e))
+parse-listing (if-then c t f) ns e = ap (build (record-of If)) (parse-listing c _ (parse-listing t _ (parse-listing f ns e)))
 
 pub listing-is-injective : ListingIsInjective
 listing-is-injective t t′ e = ap top (sym (parse-listing t [] refl) ∙ ap parse e ∙ parse-listing t′ [] refl)

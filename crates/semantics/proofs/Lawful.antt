@@ -10,10 +10,11 @@ use Rattle.std.specs.declared.option.Option.{Option}
 use Rattle.std.specs.declared.option.Option.the-variants.{Some, None}
 use Rattle.domain.specs.declared.Op.{Op}
 use Rattle.domain.specs.Meaning.{Meaning, Answer, InOrder}
+use Rattle.semantics.specs.declared.layout.Instruction.{Instruction}
+use Rattle.semantics.specs.declared.layout.Instruction.the-variants.{End, PushNum, PushTruth, Access, PushClosure, PushThunk, Operate, Compare, Bind, Unbind, Apply, Return, Choose}
 use Rattle.semantics.specs.Terms.{Term, num, truth, var, binop, eq, app, lam, let-in, if-then, size}
 use Rattle.semantics.specs.Scope.{LawfulTerm}
 use Rattle.semantics.specs.Evaluation.{Computed, gives-number, gives-boolean, gives-fault, answered, operated, compared}
-use Rattle.semantics.specs.Instructions.{Instruction, end, push-num, push-truth, access, push-closure, push-thunk, operate, compare, bind, unbind, apply, return, choose}
 use Rattle.semantics.specs.Translation.{emit, translate}
 use Rattle.semantics.specs.Running.{goes, ends, faults, stuck, Bounds, Halt, with-none-left, with-one-left}
 use Rattle.semantics.specs.StoredMachine.{Word, w-number, w-boolean, w-closure, Slot, s-val, s-thunk, s-return, StoreCell, in-front, StoredState, at-place, StoredNext, cell-at, front, behind, walk, sort-word, pop-slot, pop-slot-thunk, pop-slot-return, stored-push, stored-enter, stored-enter-branch, perform, stored-step, stored-no-room, input-cells, stored-start, stored-run}
@@ -114,22 +115,22 @@ module _ (𝓜 : Meaning) where
   perform-lawful : (k : List Instruction) (q e : ℕ) (s : List Slot) (σ : List StoreCell) → LawfulCode 𝓜 k → LawfulSlots 𝓜 s → LawfulStore 𝓜 σ →
       LawfulNext 𝓜 (perform 𝓜 k q e s σ)
   perform-lawful [] q e s σ hk hs hc = tt
-  perform-lawful (end ∷ k) q e s σ hk hs hc = pop-lawful s _ hs (λ w s hw hs. hw)
-  perform-lawful (push-num c ∷ k) q e s σ hk hs hc = ((hk .0, hs), hc)
-  perform-lawful (push-truth b ∷ k) q e s σ hk hs hc = ((tt, hs), hc)
-  perform-lawful (access x i ∷ k) q e s σ hk hs hc = ((walk-lawful σ i e hc, hs), hc)
-  perform-lawful (push-closure x n ∷ k) q e s σ hk hs hc = ((tt, hs), hc)
-  perform-lawful (push-thunk n ∷ k) q e s σ hk hs hc = ((tt, hs), hc)
-  perform-lawful (operate o p ∷ k) q e s σ hk hs hc =
+  perform-lawful (End ∷ k) q e s σ hk hs hc = pop-lawful s _ hs (λ w s hw hs. hw)
+  perform-lawful (PushNum c ∷ k) q e s σ hk hs hc = ((hk .0, hs), hc)
+  perform-lawful (PushTruth b ∷ k) q e s σ hk hs hc = ((tt, hs), hc)
+  perform-lawful (Access x i ∷ k) q e s σ hk hs hc = ((walk-lawful σ i e hc, hs), hc)
+  perform-lawful (PushClosure x n ∷ k) q e s σ hk hs hc = ((tt, hs), hc)
+  perform-lawful (PushThunk n ∷ k) q e s σ hk hs hc = ((tt, hs), hc)
+  perform-lawful (Operate o p ∷ k) q e s σ hk hs hc =
       pop-lawful s _ hs (λ w s hw hs. pop-lawful s _ hs (λ v s hv hs. push-lawful p (operated 𝓜 o (sort-word v) (sort-word w)) (suc q) e s σ (operated-lawful o v w hv hw) hs hc))
-  perform-lawful (compare p ∷ k) q e s σ hk hs hc =
+  perform-lawful (Compare p ∷ k) q e s σ hk hs hc =
       pop-lawful s _ hs (λ w s hw hs. pop-lawful s _ hs (λ v s hv hs. push-lawful p (compared 𝓜 (sort-word v) (sort-word w)) (suc q) e s σ (compared-lawful v w) hs hc))
-  perform-lawful (bind x ∷ k) q e s σ hk hs hc = pop-lawful s _ hs (λ w s hw hs. (hs, (hw, hc)))
-  perform-lawful (unbind ∷ k) q e s σ hk hs hc = (hs, hc)
-  perform-lawful (apply p ∷ k) q e s σ hk hs hc =
+  perform-lawful (Bind x ∷ k) q e s σ hk hs hc = pop-lawful s _ hs (λ w s hw hs. (hs, (hw, hc)))
+  perform-lawful (Unbind ∷ k) q e s σ hk hs hc = (hs, hc)
+  perform-lawful (Apply p ∷ k) q e s σ hk hs hc =
       pop-lawful s _ hs (λ w s hw hs. pop-lawful s _ hs (λ f s hf hs. enter-lawful p f w (suc q) e s σ hw hs hc))
-  perform-lawful (return ∷ k) q e s σ hk hs hc = pop-lawful s _ hs (λ w s hw hs. return-lawful s _ hs (λ q′ e′ s hs. ((hw, hs), hc)))
-  perform-lawful (choose p ∷ k) q e s σ hk hs hc =
+  perform-lawful (Return ∷ k) q e s σ hk hs hc = pop-lawful s _ hs (λ w s hw hs. return-lawful s _ hs (λ q′ e′ s hs. ((hw, hs), hc)))
+  perform-lawful (Choose p ∷ k) q e s σ hk hs hc =
       pop-lawful s _ hs (λ w s hw hs. thunk-lawful s _ hs (λ pe ee s hs. thunk-lawful s _ hs (λ pt et s hs. branch-lawful p w pt et pe ee (suc q) e s σ hs hc)))
 
   -- The translation of a lawful term is lawful.
@@ -178,4 +179,4 @@ numbers-stay-lawful 𝓜 C x hC h = step-lawful 𝓜 C x hC h
 
 pub runs-hold-lawful-numbers : RunsHoldLawfulNumbers
 runs-hold-lawful-numbers 𝓜 L cs t g ht hi =
-    run-lawful 𝓜 L (translate t) (emit-lawful 𝓜 0 t (end ∷ []) ht (tt, tt)) g (stored-start cs) (tt, inputs-lawful 𝓜 cs hi)
+    run-lawful 𝓜 L (translate t) (emit-lawful 𝓜 0 t (End ∷ []) ht (tt, tt)) g (stored-start cs) (tt, inputs-lawful 𝓜 cs hi)

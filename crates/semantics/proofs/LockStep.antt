@@ -8,8 +8,9 @@ use lib.Dec.{eqb}
 use lib.ListN.{length, drop}
 use Rattle.std.proofs.shelf.Tests.{eq-eqb, ne-eqb, eqb-false}
 use Rattle.domain.specs.Meaning.{Meaning}
+use Rattle.semantics.specs.declared.layout.Instruction.{Instruction}
+use Rattle.semantics.specs.declared.layout.Instruction.the-variants.{End, PushNum, PushTruth, Access, PushClosure, PushThunk, Operate, Compare, Bind, Unbind, Apply, Return, Choose}
 use Rattle.semantics.specs.Evaluation.{Computed, gives-number, gives-boolean, gives-fault, operated, compared}
-use Rattle.semantics.specs.Instructions.{Instruction, end, push-num, push-truth, access, push-closure, push-thunk, operate, compare, bind, unbind, apply, return, choose}
 use Rattle.semantics.specs.Running.{goes}
 use Rattle.semantics.specs.Machine.{Held, h-number, h-boolean, closure, HeldEnv, ∅, _◂_, Cell, val, thunk, return-to, at, MachineNext, fetch, without-front, sort-held, pop, pop-thunk, pop-return, push-computed, enter, enter-branch, step}
 use Rattle.semantics.specs.StoredMachine.{Word, w-number, w-boolean, w-closure, Slot, s-val, s-thunk, s-return, StoreCell, in-front, at-place, StoredNext, cell-at, front, behind, walk, sort-word, pop-slot, pop-slot-thunk, pop-slot-return, stored-push, stored-enter, stored-enter-branch, perform}
@@ -185,42 +186,42 @@ module _ (C : List Instruction) where
     performs : (k : List Instruction) → drop q C ≡ k →
         StandsFor C (perform 𝓜 k q e s σ) (step 𝓜 (at k (env-of C σ e) (cells-of C (env-of C σ) s) (length σ)))
     performs [] is = refl
-    performs (end ∷ k) is = pops σ s _ _ ok (λ w s hw hs. refl)
-    performs (push-num c ∷ k) is = (goes-to (suc q) k (drop-next q C (push-num c) k is) _ _ _, (le, (tt, ok), so))
-    performs (push-truth b ∷ k) is = (goes-to (suc q) k (drop-next q C (push-truth b) k is) _ _ _, (le, (tt, ok), so))
-    performs (access x i ∷ k) is =
+    performs (End ∷ k) is = pops σ s _ _ ok (λ w s hw hs. refl)
+    performs (PushNum c ∷ k) is = (goes-to (suc q) k (drop-next q C (PushNum c) k is) _ _ _, (le, (tt, ok), so))
+    performs (PushTruth b ∷ k) is = (goes-to (suc q) k (drop-next q C (PushTruth b) k is) _ _ _, (le, (tt, ok), so))
+    performs (Access x i ∷ k) is =
         let (hw, f) = walk-fetches σ so i e le in
-        ((λ j. goes (at (sym (drop-next q C (access x i) k is) j) (env-of C σ e) (val (f j) ∷ cells-of C (env-of C σ) s) (length σ))), (le, (hw, ok), so))
-    performs (push-closure x n ∷ k) is =
-        let next : drop (suc q) C ≡ k = drop-next q C (push-closure x n) k is in
+        ((λ j. goes (at (sym (drop-next q C (Access x i) k is) j) (env-of C σ e) (val (f j) ∷ cells-of C (env-of C σ) s) (length σ))), (le, (hw, ok), so))
+    performs (PushClosure x n ∷ k) is =
+        let next : drop (suc q) C ≡ k = drop-next q C (PushClosure x n) k is in
         let far : drop (suc q + n) C ≡ drop n k = drop-far (suc q) n C ∙ ap (drop n) next in
         ((λ j. goes (at (sym far j) (env-of C σ e) (val (closure (closure-name (sym is j)) (sym next j) (env-of C σ e)) ∷ cells-of C (env-of C σ) s) (length σ))), (le, (le, ok), so))
-    performs (push-thunk n ∷ k) is =
-        let next : drop (suc q) C ≡ k = drop-next q C (push-thunk n) k is in
+    performs (PushThunk n ∷ k) is =
+        let next : drop (suc q) C ≡ k = drop-next q C (PushThunk n) k is in
         let far : drop (suc q + n) C ≡ drop n k = drop-far (suc q) n C ∙ ap (drop n) next in
         ((λ j. goes (at (sym far j) (env-of C σ e) (thunk (sym next j) (env-of C σ e) ∷ cells-of C (env-of C σ) s) (length σ))), (le, (le, ok), so))
-    performs (operate o p ∷ k) is =
+    performs (Operate o p ∷ k) is =
         pops σ s _ _ ok (λ w s hw hs. pops σ s _ _ hs (λ v s hv hs.
         subst (λ r. StandsFor C (stored-push p (operated 𝓜 o (sort-word v) (sort-word w)) (suc q) e s σ) (push-computed p r k (env-of C σ e) (cells-of C (env-of C σ) s) (length σ)))
         (ap₂ (operated 𝓜 o) (sym (sort-held-of C (env-of C σ) v)) (sym (sort-held-of C (env-of C σ) w)))
-        (pushes p (operated 𝓜 o (sort-word v) (sort-word w)) q e s σ k (drop-next q C (operate o p) k is) le hs so)))
-    performs (compare p ∷ k) is =
+        (pushes p (operated 𝓜 o (sort-word v) (sort-word w)) q e s σ k (drop-next q C (Operate o p) k is) le hs so)))
+    performs (Compare p ∷ k) is =
         pops σ s _ _ ok (λ w s hw hs. pops σ s _ _ hs (λ v s hv hs.
         subst (λ r. StandsFor C (stored-push p (compared 𝓜 (sort-word v) (sort-word w)) (suc q) e s σ) (push-computed p r k (env-of C σ e) (cells-of C (env-of C σ) s) (length σ)))
         (ap₂ (compared 𝓜) (sym (sort-held-of C (env-of C σ) v)) (sym (sort-held-of C (env-of C σ) w)))
-        (pushes p (compared 𝓜 (sort-word v) (sort-word w)) q e s σ k (drop-next q C (compare p) k is) le hs so)))
-    performs (bind x ∷ k) is =
+        (pushes p (compared 𝓜 (sort-word v) (sort-word w)) q e s σ k (drop-next q C (Compare p) k is) le hs so)))
+    performs (Bind x ∷ k) is =
         pops σ s _ _ ok (λ w s hw hs. (
-          (λ i. goes (at (sym (drop-next q C (bind x) k is) i) (sym (new-cell w e σ) i) (sym (old-slots (in-front w e) σ s hs) i) (suc (length σ)))),
+          (λ i. goes (at (sym (drop-next q C (Bind x) k is) i) (sym (new-cell w e σ) i) (sym (old-slots (in-front w e) σ s hs) i) (suc (length σ)))),
           (omega arith, slots-below-more (length σ) (suc (length σ)) s (omega arith) hs, (hw, le, so)),
         ))
-    performs (unbind ∷ k) is =
+    performs (Unbind ∷ k) is =
         let (hw, l, f, b) = front-cell σ e so le in
-        ((λ i. goes (at (sym (drop-next q C unbind k is) i) (b i) (cells-of C (env-of C σ) s) (length σ))), (l, ok, so))
-    performs (apply p ∷ k) is = pops σ s _ _ ok (λ w s hw hs. pops σ s _ _ hs (λ f s hf hs. enters p f w s k (drop-next q C (apply p) k is) hf hw hs))
-    performs (return ∷ k) is = pops σ s _ _ ok (λ w s hw hs. pops-return σ s _ _ hs (λ q′ e′ s le′ hs. (refl, (le′, (hw, hs), so))))
-    performs (choose p ∷ k) is =
-        pops σ s _ _ ok (λ w s hw hs. pops-thunk σ s _ _ hs (λ pe ee s lo hs. pops-thunk σ s _ _ hs (λ pt et s lt hs. enters-branch p w pt et pe ee s k (drop-next q C (choose p) k is) lt lo hs)))
+        ((λ i. goes (at (sym (drop-next q C Unbind k is) i) (b i) (cells-of C (env-of C σ) s) (length σ))), (l, ok, so))
+    performs (Apply p ∷ k) is = pops σ s _ _ ok (λ w s hw hs. pops σ s _ _ hs (λ f s hf hs. enters p f w s k (drop-next q C (Apply p) k is) hf hw hs))
+    performs (Return ∷ k) is = pops σ s _ _ ok (λ w s hw hs. pops-return σ s _ _ hs (λ q′ e′ s le′ hs. (refl, (le′, (hw, hs), so))))
+    performs (Choose p ∷ k) is =
+        pops σ s _ _ ok (λ w s hw hs. pops-thunk σ s _ _ hs (λ pe ee s lo hs. pops-thunk σ s _ _ hs (λ pt et s lt hs. enters-branch p w pt et pe ee s k (drop-next q C (Choose p) k is) lt lo hs)))
 
 pub steps-in-lock-step : StepsInLockStep
 steps-in-lock-step 𝓜 C (at-place q e s σ) (le, ok, so) = performs C 𝓜 q e s σ le ok so (drop q C) refl

@@ -7,10 +7,11 @@ use native.Mathlib.Omega.{arith}
 use native.Mathlib.Decide.{decLe}
 use Rattle.domain.specs.declared.Fault.{Fault}
 use Rattle.domain.specs.Meaning.{Meaning}
+use Rattle.semantics.specs.declared.layout.Instruction.{Instruction}
+use Rattle.semantics.specs.declared.layout.Instruction.the-variants.{PushThunk, Operate, Compare, Bind, Unbind, Apply, Return, Choose}
 use Rattle.semantics.specs.Terms.{Term, num, truth, var, binop, eq, app, lam, let-in, if-then, size}
 use Rattle.semantics.specs.Values.{Value, number, boolean, function, Env, _▸_, Outcome, yields, fails}
 use Rattle.semantics.specs.Evaluation.{Computed, gives-number, gives-boolean, gives-fault, operated, compared, number-no-function, boolean-no-function, number-no-boolean, function-no-boolean, closing, Evals, e-num, e-truth, e-var, e-lam, e-binop, e-binop-left, e-binop-right, e-eq, e-eq-left, e-eq-right, e-app, e-app-no, e-app-left, e-app-right, e-let, e-let-left, e-if, e-if-no, e-if-left}
-use Rattle.semantics.specs.Instructions.{Instruction, push-thunk, operate, compare, bind, unbind, apply, return, choose}
 use Rattle.semantics.specs.Translation.{code-size, emit}
 use Rattle.semantics.specs.Running.{goes}
 use Rattle.semantics.specs.Machine.{Held, h-number, h-boolean, closure, HeldEnv, _◂_, Cell, val, thunk, return-to, State, at, sort-held, push-computed, enter, enter-branch, step, Steps, here}
@@ -111,7 +112,7 @@ module _ (𝓜 : Meaning) where
       (k : List Instruction) (c : List Cell) (m : ℕ) →
       (v w : Value) (i j : ℕ) → Evals 𝓜 ρ (suc p) f (yields v) i → Evals 𝓜 ρ (suc p + size f) a (yields w) j → i + j ≤ N →
       (hv hw : Held) (m′ : ℕ) → Fits hv v → Fits hw w → {s : State} →
-      Steps 𝓜 (i + j) s (at (apply p ∷ k) ρ′ (val hw ∷ val hv ∷ c) m′) → Progress N s ρ p (app f a)
+      Steps 𝓜 (i + j) s (at (Apply p ∷ k) ρ′ (val hw ∷ val hv ∷ c) m′) → Progress N s ρ p (app f a)
   app-next ih f a N le ρ p ρ′ k c m (number x) w i j df da l hv hw m′ fv fw s =
       last l s (busy-enter p hv hw k ρ′ c m′) (e-app-no df da number-no-function refl) refl
   app-next ih f a N le ρ p ρ′ k c m (boolean x) w i j df da l hv hw m′ fv fw s =
@@ -121,9 +122,9 @@ module _ (𝓜 : Meaning) where
       go : Dec (i + j + 1 ≤ N) → Progress N s₀ ρ p (app f a)
       go (yes l₁) =
           let (r, ρ₁, fs₁, enters) = apply-step 𝓜 fv in
-          body-progress (return ∷ r) k (hw ◂ ρ₁) ρ′ (return-to k ρ′ ∷ c) c l₁ (one-step-more 𝓜 s (enters p k ρ′ c m′ hw) (i + j + 1) refl)
-          (ih (N - (i + j + 1)) (omega arith) b (N - (i + j + 1)) (omega arith) (w ▸ ρf) (suc q) (hw ◂ ρ₁) (fits-more fw fs₁) (return ∷ r) (return-to k ρ′ ∷ c) (suc m′))
-          (λ o n e. simulates 𝓜 e (hw ◂ ρ₁) (fits-more fw fs₁) (return ∷ r) (return-to k ρ′ ∷ c) (suc m′))
+          body-progress (Return ∷ r) k (hw ◂ ρ₁) ρ′ (return-to k ρ′ ∷ c) c l₁ (one-step-more 𝓜 s (enters p k ρ′ c m′ hw) (i + j + 1) refl)
+          (ih (N - (i + j + 1)) (omega arith) b (N - (i + j + 1)) (omega arith) (w ▸ ρf) (suc q) (hw ◂ ρ₁) (fits-more fw fs₁) (Return ∷ r) (return-to k ρ′ ∷ c) (suc m′))
+          (λ o n e. simulates 𝓜 e (hw ◂ ρ₁) (fits-more fw fs₁) (Return ∷ r) (return-to k ρ′ ∷ c) (suc m′))
           (λ h m. refl) (λ o n e. e-app df da e refl)
       go (no l₁) = going (join 𝓜 s here N (omega arith)) (busy-enter p hv hw k ρ′ c m′)
 
@@ -133,15 +134,15 @@ module _ (𝓜 : Meaning) where
       (o : Outcome) (n : ℕ) → Evals 𝓜 ρ (suc p) a o n → n ≤ N - 0 → Progress N (at (emit p (let-in x a b) k) ρ′ c m) ρ p (let-in x a b)
   let-next x a b gb N le ρ p ρ′ fs k c m (fails φ q) n da l = done (e-let-left da) (omega arith)
   let-next x a b gb N le ρ p ρ′ fs k c m (yields v) n da l =
-      go (decLe (n + 1) N) (value-reached 𝓜 (simulates 𝓜 da ρ′ fs (bind x ∷ emit (suc p + size a) b (unbind ∷ k)) c m))
+      go (decLe (n + 1) N) (value-reached 𝓜 (simulates 𝓜 da ρ′ fs (Bind x ∷ emit (suc p + size a) b (Unbind ∷ k)) c m))
     where
       go : Dec (n + 1 ≤ N) →
-          (h : Held) × (m₁ : ℕ) × Steps 𝓜 n (at (emit p (let-in x a b) k) ρ′ c m) (at (bind x ∷ emit (suc p + size a) b (unbind ∷ k)) ρ′ (val h ∷ c) m₁) × Fits h v →
+          (h : Held) × (m₁ : ℕ) × Steps 𝓜 n (at (emit p (let-in x a b) k) ρ′ c m) (at (Bind x ∷ emit (suc p + size a) b (Unbind ∷ k)) ρ′ (val h ∷ c) m₁) × Fits h v →
           Progress N (at (emit p (let-in x a b) k) ρ′ c m) ρ p (let-in x a b)
       go (yes l₁) (h, m₁, s₁, f) =
-          body-progress (unbind ∷ k) k (h ◂ ρ′) ρ′ c c l₁ (one-step-more 𝓜 s₁ refl (n + 1) refl)
-          (gb (N - (n + 1)) (omega arith) (v ▸ ρ) (suc p + size a) (h ◂ ρ′) (fits-more f fs) (unbind ∷ k) c (suc m₁))
-          (λ o j e. simulates 𝓜 e (h ◂ ρ′) (fits-more f fs) (unbind ∷ k) c (suc m₁))
+          body-progress (Unbind ∷ k) k (h ◂ ρ′) ρ′ c c l₁ (one-step-more 𝓜 s₁ refl (n + 1) refl)
+          (gb (N - (n + 1)) (omega arith) (v ▸ ρ) (suc p + size a) (h ◂ ρ′) (fits-more f fs) (Unbind ∷ k) c (suc m₁))
+          (λ o j e. simulates 𝓜 e (h ◂ ρ′) (fits-more f fs) (Unbind ∷ k) c (suc m₁))
           (λ h m. refl) (λ o j e. e-let da e refl)
       go (no l₁) (h, m₁, s₁, f) = going (join 𝓜 s₁ here N (omega arith)) refl
 
@@ -149,7 +150,7 @@ module _ (𝓜 : Meaning) where
   if-next : {N₀ : ℕ} (q t e : Term) → MakesProgress N₀ t → MakesProgress N₀ e → (N : ℕ) → N ≤ N₀ → (ρ : Env) (p : ℕ) (ρ′ : HeldEnv) → FitsEnv ρ′ ρ →
       (k : List Instruction) (c : List Cell) (m : ℕ) →
       (v : Value) (n : ℕ) → Evals 𝓜 ρ (suc p) q (yields v) n → 2 + n ≤ N → (h : Held) → Fits h v → {s : State} (r₁ r₂ : List Instruction) →
-      Steps 𝓜 (2 + n) s (at (choose p ∷ k) ρ′ (val h ∷ thunk (emit (suc p + size q + size t) e (return ∷ r₂)) ρ′ ∷ thunk (emit (suc p + size q) t (return ∷ r₁)) ρ′ ∷ c) m) →
+      Steps 𝓜 (2 + n) s (at (Choose p ∷ k) ρ′ (val h ∷ thunk (emit (suc p + size q + size t) e (Return ∷ r₂)) ρ′ ∷ thunk (emit (suc p + size q) t (Return ∷ r₁)) ρ′ ∷ c) m) →
       Progress N s ρ p (if-then q t e)
   if-next q t e gt ge N le ρ p ρ′ fs k c m (number i) n dq l h f r₁ r₂ s =
       last l s (busy-branch p h _ _ k ρ′ c m) (e-if-no dq number-no-boolean refl) refl
@@ -159,18 +160,18 @@ module _ (𝓜 : Meaning) where
     where
       go : Dec (2 + n + 1 ≤ N) → Progress N s₀ ρ p (if-then q t e)
       go (yes l₁) =
-          body-progress (return ∷ r₁) k ρ′ ρ′ (return-to k ρ′ ∷ c) c l₁ (one-step-more 𝓜 s refl (2 + n + 1) refl)
-          (gt (N - (2 + n + 1)) (omega arith) ρ (suc p + size q) ρ′ fs (return ∷ r₁) (return-to k ρ′ ∷ c) m)
-          (λ o j d. simulates 𝓜 d ρ′ fs (return ∷ r₁) (return-to k ρ′ ∷ c) m)
+          body-progress (Return ∷ r₁) k ρ′ ρ′ (return-to k ρ′ ∷ c) c l₁ (one-step-more 𝓜 s refl (2 + n + 1) refl)
+          (gt (N - (2 + n + 1)) (omega arith) ρ (suc p + size q) ρ′ fs (Return ∷ r₁) (return-to k ρ′ ∷ c) m)
+          (λ o j d. simulates 𝓜 d ρ′ fs (Return ∷ r₁) (return-to k ρ′ ∷ c) m)
           (λ h m. refl) (λ o j d. e-if dq d refl)
       go (no l₁) = going (join 𝓜 s here N (omega arith)) refl
   if-next q t e gt ge N le ρ p ρ′ fs k c m (boolean false) n dq l h fits-boolean {s = s₀} r₁ r₂ s = go (decLe (2 + n + 1) N)
     where
       go : Dec (2 + n + 1 ≤ N) → Progress N s₀ ρ p (if-then q t e)
       go (yes l₁) =
-          body-progress (return ∷ r₂) k ρ′ ρ′ (return-to k ρ′ ∷ c) c l₁ (one-step-more 𝓜 s refl (2 + n + 1) refl)
-          (ge (N - (2 + n + 1)) (omega arith) ρ (suc p + size q + size t) ρ′ fs (return ∷ r₂) (return-to k ρ′ ∷ c) m)
-          (λ o j d. simulates 𝓜 d ρ′ fs (return ∷ r₂) (return-to k ρ′ ∷ c) m)
+          body-progress (Return ∷ r₂) k ρ′ ρ′ (return-to k ρ′ ∷ c) c l₁ (one-step-more 𝓜 s refl (2 + n + 1) refl)
+          (ge (N - (2 + n + 1)) (omega arith) ρ (suc p + size q + size t) ρ′ fs (Return ∷ r₂) (return-to k ρ′ ∷ c) m)
+          (λ o j d. simulates 𝓜 d ρ′ fs (Return ∷ r₂) (return-to k ρ′ ∷ c) m)
           (λ h m. refl) (λ o j d. e-if dq d refl)
       go (no l₁) = going (join 𝓜 s here N (omega arith)) refl
 
@@ -180,15 +181,15 @@ module _ (𝓜 : Meaning) where
       (o : Outcome) (n : ℕ) → Evals 𝓜 ρ (suc p) q o n → n ≤ N - 2 → Progress N (at (emit p (if-then q t e) k) ρ′ c m) ρ p (if-then q t e)
   if-condition q t e gt ge N le two ρ p ρ′ fs k c m (fails φ r) n dq l = done (e-if-left dq refl) (omega arith)
   if-condition q t e gt ge N le two ρ p ρ′ fs k c m (yields v) n dq l =
-      let (h, m₁, s₁, f) = value-reached 𝓜 (simulates 𝓜 dq ρ′ fs (choose p ∷ k) (thunk (else-code p q t e k) ρ′ ∷ thunk (then-code p q t e k) ρ′ ∷ c) m) in
-      if-next q t e gt ge N le ρ p ρ′ fs k c m₁ v n dq (omega arith) h f (push-thunk (suc (code-size e)) ∷ else-code p q t e k) (emit (suc p) q (choose p ∷ k)) (join 𝓜 (if-starts 𝓜 p q t e k ρ′ c m) s₁ (2 + n) refl)
+      let (h, m₁, s₁, f) = value-reached 𝓜 (simulates 𝓜 dq ρ′ fs (Choose p ∷ k) (thunk (else-code p q t e k) ρ′ ∷ thunk (then-code p q t e k) ρ′ ∷ c) m) in
+      if-next q t e gt ge N le ρ p ρ′ fs k c m₁ v n dq (omega arith) h f (PushThunk (suc (code-size e)) ∷ else-code p q t e k) (emit (suc p) q (Choose p ∷ k)) (join 𝓜 (if-starts 𝓜 p q t e k ρ′ c m) s₁ (2 + n) refl)
 
   -- An If, from its first step on.
   if-first : {N₀ : ℕ} (q t e : Term) → MakesProgress N₀ q → MakesProgress N₀ t → MakesProgress N₀ e → MakesProgress N₀ (if-then q t e)
   if-first q t e gq gt ge zero le ρ p ρ′ fs k c m = going here refl
   if-first q t e gq gt ge (suc zero) le ρ p ρ′ fs k c m = going (if-half 𝓜 p q t e k ρ′ c m) refl
   if-first q t e gq gt ge (suc (suc N)) le ρ p ρ′ fs k c m =
-      through (omega arith) (if-starts 𝓜 p q t e k ρ′ c m) (gq (suc (suc N) - 2) (omega arith) ρ (suc p) ρ′ fs (choose p ∷ k) (thunk (else-code p q t e k) ρ′ ∷ thunk (then-code p q t e k) ρ′ ∷ c) m)
+      through (omega arith) (if-starts 𝓜 p q t e k ρ′ c m) (gq (suc (suc N) - 2) (omega arith) ρ (suc p) ρ′ fs (Choose p ∷ k) (thunk (else-code p q t e k) ρ′ ∷ thunk (then-code p q t e k) ρ′ ∷ c) m)
       (if-condition q t e gt ge (suc (suc N)) le (omega arith) ρ p ρ′ fs k c m)
 
   -- Every term makes progress, where all terms do within fewer units: a function's body may be any term.
@@ -198,19 +199,19 @@ module _ (𝓜 : Meaning) where
   makes-progress N₀ ih (var x i) N le ρ p ρ′ fs k c m = last {a = 0} (omega arith) here refl (e-var refl refl) refl
   makes-progress N₀ ih (lam x b) N le ρ p ρ′ fs k c m = last {a = 0} (omega arith) here refl (e-lam refl) refl
   makes-progress N₀ ih (binop o l r) N le ρ p ρ′ fs k c m =
-      pair l r (makes-progress N₀ ih l) (makes-progress N₀ ih r) N le ρ p (binop o l r) ρ′ fs (operate o p ∷ k) c m
+      pair l r (makes-progress N₀ ih l) (makes-progress N₀ ih r) N le ρ p (binop o l r) ρ′ fs (Operate o p ∷ k) c m
       (λ φ q n d. e-binop-left d) (λ v φ q a b dl dr. e-binop-right dl dr refl)
       (λ v w a b dl dr le hv hw m fv fw s. last le s (busy-push p (operated 𝓜 o (sort-held hv) (sort-held hw)) k ρ′ c m) (e-binop dl dr refl refl) refl)
   makes-progress N₀ ih (eq l r) N le ρ p ρ′ fs k c m =
-      pair l r (makes-progress N₀ ih l) (makes-progress N₀ ih r) N le ρ p (eq l r) ρ′ fs (compare p ∷ k) c m
+      pair l r (makes-progress N₀ ih l) (makes-progress N₀ ih r) N le ρ p (eq l r) ρ′ fs (Compare p ∷ k) c m
       (λ φ q n d. e-eq-left d) (λ v φ q a b dl dr. e-eq-right dl dr refl)
       (λ v w a b dl dr le hv hw m fv fw s. last le s (busy-push p (compared 𝓜 (sort-held hv) (sort-held hw)) k ρ′ c m) (e-eq dl dr refl refl) refl)
   makes-progress N₀ ih (app f a) N le ρ p ρ′ fs k c m =
-      pair f a (makes-progress N₀ ih f) (makes-progress N₀ ih a) N le ρ p (app f a) ρ′ fs (apply p ∷ k) c m
+      pair f a (makes-progress N₀ ih f) (makes-progress N₀ ih a) N le ρ p (app f a) ρ′ fs (Apply p ∷ k) c m
       (λ φ q n d. e-app-left d) (λ v φ q a b dl dr. e-app-right dl dr refl)
       (λ v w i j df da l hv hw m′ fv fw s. app-next ih f a N le ρ p ρ′ k c m v w i j df da l hv hw m′ fv fw s)
   makes-progress N₀ ih (let-in x a b) N le ρ p ρ′ fs k c m =
-      through (omega arith) here (makes-progress N₀ ih a (N - 0) (omega arith) ρ (suc p) ρ′ fs (bind x ∷ emit (suc p + size a) b (unbind ∷ k)) c m)
+      through (omega arith) here (makes-progress N₀ ih a (N - 0) (omega arith) ρ (suc p) ρ′ fs (Bind x ∷ emit (suc p + size a) b (Unbind ∷ k)) c m)
       (let-next x a b (makes-progress N₀ ih b) N le ρ p ρ′ fs k c m)
   makes-progress N₀ ih (if-then q t e) N le ρ p ρ′ fs k c m =
       if-first q t e (makes-progress N₀ ih q) (makes-progress N₀ ih t) (makes-progress N₀ ih e) N le ρ p ρ′ fs k c m

@@ -6,11 +6,13 @@ use Prim.Native.Nat.{ℕ, zero, suc, _+_}
 use lib.ListN.{length}
 use Rattle.domain.specs.declared.Op.{Op}
 use Rattle.domain.specs.declared.Op.the-variants.{Add, Sub, Mul, Div}
+use Rattle.semantics.specs.declared.layout.Instruction.{Instruction}
+use Rattle.semantics.specs.declared.layout.Instruction.the-variants.{End, PushNum, PushTruth, Access, PushClosure, PushThunk, Operate, Compare, Bind, Unbind, Apply, Return, Choose}
 use Rattle.semantics.specs.Terms.{Term, num, truth, var, binop, eq, app, lam, let-in, if-then, size}
 use Rattle.semantics.specs.Scope.{Bears, InScope}
 use Rattle.semantics.specs.Listing.{bit, op-number}
 use Rattle.semantics.specs.Substitution.{fill-var, fill}
-use Rattle.semantics.specs.Instructions.{Instruction, end, push-num, push-truth, access, push-closure, push-thunk, operate, compare, bind, unbind, apply, return, choose, encode}
+use Rattle.semantics.specs.Instructions.{encode}
 use Rattle.semantics.specs.Translation.{emit, translate}
 use Rattle.semantics.specs.Showing.{Mark, in-lambda, in-thunk, in-let, holding, top, rest, read}
 use Rattle.semantics.specs.ReadingBack.{ReadsBack, bit-back, op-back, decode, read-code, AtMostOneTermHasACode}
@@ -51,7 +53,7 @@ fill-in-scope names σ (if-then c t e) h =
     λ i. if-then (fill-in-scope names σ c (h .0) i) (fill-in-scope names σ t (h .1) i) (fill-in-scope names σ e (h .2) i)
 
 pub reads-back : ReadsBack
-reads-back names t h = read-emit 0 t (end ∷ []) (length names) [] [] [] ∙ fill-in-scope names [] t h
+reads-back names t h = read-emit 0 t (End ∷ []) (length names) [] [] [] ∙ fill-in-scope names [] t h
 
 -- What a number stands for is what it was made of.
 pub bit-again : (b : Bool) → bit-back (bit b) ≡ b
@@ -68,27 +70,27 @@ op-again Div = refl
 read-again : (c : List Instruction) (k : ℕ) (σ : List Term) (ms : List Mark) (s : List Term) →
     read (map decode (map encode c)) k σ ms s ≡ read c k σ ms s
 read-again [] k σ ms s = refl
-read-again (end ∷ c) k σ ms s = refl
-read-again (push-num n ∷ c) k σ ms s = read-again c k σ ms _
-read-again (push-truth b ∷ c) k σ ms s =
+read-again (End ∷ c) k σ ms s = refl
+read-again (PushNum n ∷ c) k σ ms s = read-again c k σ ms _
+read-again (PushTruth b ∷ c) k σ ms s =
     ap (λ z. read (map decode (map encode c)) k σ ms (truth z ∷ s)) (bit-again b) ∙ read-again c k σ ms (truth b ∷ s)
-read-again (access x i ∷ c) k σ ms s = read-again c k σ ms _
-read-again (push-closure x n ∷ c) k σ ms s = read-again c k σ _ s
-read-again (push-thunk n ∷ c) k σ ms s = read-again c k σ _ s
-read-again (operate o p ∷ c) k σ ms s =
+read-again (Access x i ∷ c) k σ ms s = read-again c k σ ms _
+read-again (PushClosure x n ∷ c) k σ ms s = read-again c k σ _ s
+read-again (PushThunk n ∷ c) k σ ms s = read-again c k σ _ s
+read-again (Operate o p ∷ c) k σ ms s =
     ap (λ z. read (map decode (map encode c)) k σ ms (binop z (top (rest s)) (top s) ∷ rest (rest s))) (op-again o) ∙ read-again c k σ ms _
-read-again (compare p ∷ c) k σ ms s = read-again c k σ ms _
-read-again (bind x ∷ c) k σ ms s = read-again c k σ _ _
-read-again (unbind ∷ c) k σ [] s = read-again c k _ [] s
-read-again (unbind ∷ c) k σ (in-lambda x ∷ ms) s = refl
-read-again (unbind ∷ c) k σ (in-thunk ∷ ms) s = refl
-read-again (unbind ∷ c) k σ (in-let x a ∷ ms) s = read-again c k σ ms _
-read-again (apply p ∷ c) k σ ms s = read-again c k σ ms _
-read-again (return ∷ c) k σ [] s = refl
-read-again (return ∷ c) k σ (in-lambda x ∷ ms) s = read-again c k σ ms _
-read-again (return ∷ c) k σ (in-thunk ∷ ms) s = read-again c k σ ms s
-read-again (return ∷ c) k σ (in-let x a ∷ ms) s = refl
-read-again (choose p ∷ c) k σ ms s = read-again c k σ ms _
+read-again (Compare p ∷ c) k σ ms s = read-again c k σ ms _
+read-again (Bind x ∷ c) k σ ms s = read-again c k σ _ _
+read-again (Unbind ∷ c) k σ [] s = read-again c k _ [] s
+read-again (Unbind ∷ c) k σ (in-lambda x ∷ ms) s = refl
+read-again (Unbind ∷ c) k σ (in-thunk ∷ ms) s = refl
+read-again (Unbind ∷ c) k σ (in-let x a ∷ ms) s = read-again c k σ ms _
+read-again (Apply p ∷ c) k σ ms s = read-again c k σ ms _
+read-again (Return ∷ c) k σ [] s = refl
+read-again (Return ∷ c) k σ (in-lambda x ∷ ms) s = read-again c k σ ms _
+read-again (Return ∷ c) k σ (in-thunk ∷ ms) s = read-again c k σ ms s
+read-again (Return ∷ c) k σ (in-let x a ∷ ms) s = refl
+read-again (Choose p ∷ c) k σ ms s = read-again c k σ ms _
 
 pub at-most-one-term-has-a-code : AtMostOneTermHasACode
 at-most-one-term-has-a-code names t code h is =

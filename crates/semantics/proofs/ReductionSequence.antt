@@ -7,7 +7,8 @@ use Rattle.domain.specs.Meaning.{Meaning}
 use Rattle.semantics.specs.Terms.{Term, num, truth, var, binop, eq, app, lam, let-in, if-then, size}
 use Rattle.semantics.specs.Values.{input-env}
 use Rattle.semantics.specs.Substitution.{fill, close}
-use Rattle.semantics.specs.Instructions.{Instruction, end, push-thunk, return, choose}
+use Rattle.semantics.specs.declared.layout.Instruction.{Instruction}
+use Rattle.semantics.specs.declared.layout.Instruction.the-variants.{End, PushThunk, Return, Choose}
 use Rattle.semantics.specs.Translation.{code-size, emit}
 use Rattle.semantics.specs.Running.{goes, ends, faults, stuck}
 use Rattle.semantics.specs.Machine.{Held, closure, HeldEnv, Cell, val, thunk, State, at, MachineNext, step, held-inputs, start, Steps, here, more}
@@ -23,7 +24,7 @@ use Rattle.semantics.proofs.ShownSteps.{InRun, state-kept}
 
 -- A run begins by showing the term with its inputs filled in.
 start-shows : (cs : List ℕ) (t : Term) → show (start t cs) ≡ close (input-env cs) t
-start-shows cs t = read-emit 0 t (end ∷ []) 0 (show-env (held-inputs cs)) [] [] ∙ ap (λ σ. fill 0 σ t) (shown-env-fits (inputs-fit cs))
+start-shows cs t = read-emit 0 t (End ∷ []) 0 (show-env (held-inputs cs)) [] [] ∙ ap (λ σ. fill 0 σ t) (shown-env-fits (inputs-fit cs))
 
 -- Every state on the way is a state of a run.
 start-run-state : (cs : List ℕ) (t : Term) → RunState (start t cs)
@@ -66,16 +67,16 @@ module _ (𝓜 : Meaning) where
   term-settles (app l r) p k ρ c m f =
       term-settles l (suc p) _ ρ c m (λ h. term-settles r (suc p + size l) _ ρ (val h ∷ c) m (λ h′. contracts-next refl))
   term-settles (lam x b) p k ρ c m f =
-      let body : List Instruction = emit (suc p) b (return ∷ k) in
+      let body : List Instruction = emit (suc p) b (Return ∷ k) in
       silent (ap (λ i. goes (at i ρ (val (closure x body ρ) ∷ c) m)) (drop-body (suc p) b k)) refl (f _)
   term-settles (let-in x a b) p k ρ c m f = term-settles a (suc p) _ ρ c m (λ h. contracts-next refl)
   term-settles (if-then q t e) p k ρ c m f =
       let qt : ℕ = suc p + size q in
       let qe : ℕ = suc p + size q + size t in
-      let cnd : List Instruction = emit (suc p) q (choose p ∷ k) in
-      let els : List Instruction = emit qe e (return ∷ cnd) in
-      let after : List Instruction = push-thunk (suc (code-size e)) ∷ els in
-      let thn : List Instruction = emit qt t (return ∷ after) in
+      let cnd : List Instruction = emit (suc p) q (Choose p ∷ k) in
+      let els : List Instruction = emit qe e (Return ∷ cnd) in
+      let after : List Instruction = PushThunk (suc (code-size e)) ∷ els in
+      let thn : List Instruction = emit qt t (Return ∷ after) in
       silent (ap (λ i. goes (at i ρ (thunk thn ρ ∷ c) m)) (drop-body qt t after)) refl
       (silent (ap (λ i. goes (at i ρ (thunk els ρ ∷ thunk thn ρ ∷ c) m)) (drop-body qe e cnd)) refl
       (term-settles q (suc p) _ ρ _ m (λ h. contracts-next refl)))
@@ -99,8 +100,8 @@ module _ (𝓜 : Meaning) where
   state-settles (on-term p t {m = m} g K) = term-settles t p _ _ _ m (λ h. value-settles K h m)
   state-settles (on-value {h = h} {m = m} g K) = value-settles K h m
   state-settles (between-thunks p qe t e q qt r₁ {ρ = ρ} {k = k} {c = c} {m = m} g K) =
-      let cnd : List Instruction = emit (suc p) q (choose p ∷ k) in
-      silent (ap (λ i. goes (at i ρ (thunk (emit qe e (return ∷ cnd)) ρ ∷ thunk (emit qt t (return ∷ r₁)) ρ ∷ c) m)) (drop-body qe e cnd)) refl
+      let cnd : List Instruction = emit (suc p) q (Choose p ∷ k) in
+      silent (ap (λ i. goes (at i ρ (thunk (emit qe e (Return ∷ cnd)) ρ ∷ thunk (emit qt t (Return ∷ r₁)) ρ ∷ c) m)) (drop-body qe e cnd)) refl
       (term-settles q (suc p) _ ρ _ m (λ h. contracts-next refl))
 
   -- A state that the run comes to from s, with k steps that contract, and that shows u.

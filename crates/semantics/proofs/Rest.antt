@@ -8,9 +8,10 @@ use lib.Dec.{T, leb, nleb→lt}
 use Rattle.std.specs.declared.option.Option.{Option}
 use Rattle.std.specs.declared.option.Option.the-variants.{Some, None}
 use Rattle.domain.specs.Meaning.{Meaning}
+use Rattle.semantics.specs.declared.layout.Instruction.{Instruction}
+use Rattle.semantics.specs.declared.layout.Instruction.the-variants.{PushThunk, Apply, Return, Choose}
 use Rattle.semantics.specs.Terms.{Term, num, truth, var, binop, eq, app, lam, let-in, if-then, size}
 use Rattle.semantics.specs.Evaluation.{Computed, gives-number, gives-boolean, gives-fault, operated, compared}
-use Rattle.semantics.specs.Instructions.{Instruction, push-thunk, apply, return, choose}
 use Rattle.semantics.specs.Translation.{code-size, emit}
 use Rattle.semantics.specs.Sizes.{most-records}
 use Rattle.semantics.specs.Running.{goes, ends, faults, stuck, Bounds, Halt, for-store, no-cell, with-none-left, with-one-left}
@@ -42,7 +43,7 @@ module _ (L : Bounds) where
         (K : Waits k ρ c) → units-left K + reserve m ≤ N → Within N (at k ρ (val h ∷ c) m)
     between : (p qe qt : ℕ) (q t e : Term) (r₁ : List Instruction) {ρ : HeldEnv} {k : List Instruction} {c : List Cell} {m : ℕ} →
         size (if-then q t e) ≤ most-records → SmallEnv ρ → (K : Waits k ρ c) → units (if-then q t e) + units-left K + reserve m ≤ suc N →
-        Within N (at (push-thunk (suc (code-size e)) ∷ emit qe e (return ∷ emit (suc p) q (choose p ∷ k))) ρ (thunk (emit qt t (return ∷ r₁)) ρ ∷ c) m)
+        Within N (at (PushThunk (suc (code-size e)) ∷ emit qe e (Return ∷ emit (suc p) q (Choose p ∷ k))) ρ (thunk (emit qt t (Return ∷ r₁)) ρ ∷ c) m)
 
   -- From where at most N units are left, a step that has room leads to where one fewer is left. The machine is never stuck.
   abbrev Falls : ℕ → Option Halt → MachineNext → Type 0
@@ -60,7 +61,7 @@ module _ (L : Bounds) where
 
   -- The cell that an entry stores pays for the body's frame.
   falls-enter : (p : ℕ) {h₀ h : Held} {ρ : HeldEnv} {k : List Instruction} {c : List Cell} (m N : ℕ) → Small h₀ → Small h → (K : Waits k ρ c) →
-      suc (units-left K) + reserve m ≤ N → Falls N (no-room L (at (apply p ∷ k) ρ (val h ∷ val h₀ ∷ c) m)) (enter p h₀ h k ρ c m)
+      suc (units-left K) + reserve m ≤ N → Falls N (no-room L (at (Apply p ∷ k) ρ (val h ∷ val h₀ ∷ c) m)) (enter p h₀ h k ρ c m)
   falls-enter p m N small-number s K b = omega arith
   falls-enter p m N small-boolean s K b = omega arith
   falls-enter p m N (small-closure q t r le g) s K b =
@@ -70,7 +71,7 @@ module _ (L : Bounds) where
   falls-branch : (p qt qe : ℕ) (t e : Term) (r₁ r₂ : List Instruction) (h : Held) {ρ : HeldEnv} {k : List Instruction} {c : List Cell} (m N : ℕ) →
       size t ≤ most-records → size e ≤ most-records → SmallEnv ρ → (K : Waits k ρ c) →
       suc (max (units t) (units e) + suc (units-left K)) + reserve m ≤ N →
-      Falls N None (enter-branch p h (emit qt t (return ∷ r₁)) ρ (emit qe e (return ∷ r₂)) ρ k ρ c m)
+      Falls N None (enter-branch p h (emit qt t (Return ∷ r₁)) ρ (emit qe e (Return ∷ r₂)) ρ k ρ c m)
   falls-branch p qt qe t e r₁ r₂ (h-number i) m N lt le g K b = omega arith
   falls-branch p qt qe t e r₁ r₂ (h-boolean true) m N lt le g K b = (omega arith, λ _. about qt t lt g (before-return K) (omega arith))
   falls-branch p qt qe t e r₁ r₂ (h-boolean false) m N lt le g K b = (omega arith, λ _. about qe e le g (before-return K) (omega arith))
@@ -91,13 +92,13 @@ module _ (L : Bounds) where
     falls-about (eq l r) p m N le g K b = falls-about l _ m N (omega arith) g (for-first _ r joins-compare (omega arith) g K) (omega arith)
     falls-about (app f a) p m N le g K b = falls-about f _ m N (omega arith) g (for-first _ a joins-apply (omega arith) g K) (omega arith)
     falls-about (lam x t) p {ρ = ρ} {k = k} {c = c} m N le g K b =
-        let body : List Instruction = emit (suc p) t (return ∷ k) in
+        let body : List Instruction = emit (suc p) t (Return ∷ k) in
         subst (λ i. Falls N (no-room L (at (emit p (lam x t) k) ρ c m)) (goes (at i ρ (val (closure x body ρ) ∷ c) m)))
         (sym (drop-body (suc p) t k))
         (omega arith, λ _. having (small-closure (suc p) t k le g) K (omega arith))
     falls-about (let-in x a t) p m N le g K b = falls-about a _ m N (omega arith) g (for-bound x _ t (omega arith) g K) (omega arith)
     falls-about (if-then q t e) p {ρ = ρ} {k = k} {c = c} m N le g K b =
-        let after : List Instruction = push-thunk (suc (code-size e)) ∷ else-code p q t e k in
+        let after : List Instruction = PushThunk (suc (code-size e)) ∷ else-code p q t e k in
         subst (λ i. Falls N (no-room L (at (emit p (if-then q t e) k) ρ c m)) (goes (at i ρ (thunk (then-code p q t e k) ρ ∷ c) m)))
         (sym (drop-body (suc p + size q) t after))
         (omega arith, λ _. between p _ _ q t e after le g K (omega arith))
@@ -105,12 +106,12 @@ module _ (L : Bounds) where
     -- The step between an If's two thunks.
     falls-between : (p qe qt : ℕ) (q t e : Term) (r₁ : List Instruction) {ρ : HeldEnv} {k : List Instruction} {c : List Cell} (m N : ℕ) →
         size (if-then q t e) ≤ most-records → SmallEnv ρ → (K : Waits k ρ c) → units (if-then q t e) + units-left K + reserve m ≤ suc N →
-        StepFalls N (at (push-thunk (suc (code-size e)) ∷ emit qe e (return ∷ emit (suc p) q (choose p ∷ k))) ρ (thunk (emit qt t (return ∷ r₁)) ρ ∷ c) m)
+        StepFalls N (at (PushThunk (suc (code-size e)) ∷ emit qe e (Return ∷ emit (suc p) q (Choose p ∷ k))) ρ (thunk (emit qt t (Return ∷ r₁)) ρ ∷ c) m)
     falls-between p qe qt q t e r₁ {ρ = ρ} {k = k} {c = c} m N le g K b =
-        let after : List Instruction = emit (suc p) q (choose p ∷ k) in
-        let body : List Instruction = emit qe e (return ∷ after) in
-        let first : Cell = thunk (emit qt t (return ∷ r₁)) ρ in
-        subst (λ i. Falls N (no-room L (at (push-thunk (suc (code-size e)) ∷ body) ρ (first ∷ c) m)) (goes (at i ρ (thunk body ρ ∷ first ∷ c) m)))
+        let after : List Instruction = emit (suc p) q (Choose p ∷ k) in
+        let body : List Instruction = emit qe e (Return ∷ after) in
+        let first : Cell = thunk (emit qt t (Return ∷ r₁)) ρ in
+        subst (λ i. Falls N (no-room L (at (PushThunk (suc (code-size e)) ∷ body) ρ (first ∷ c) m)) (goes (at i ρ (thunk body ρ ∷ first ∷ c) m)))
         (sym (drop-body qe e after))
         (omega arith, λ _. about (suc p) q (omega arith) g (for-condition qt qe t e r₁ after (omega arith) (omega arith) g K) (omega arith))
 

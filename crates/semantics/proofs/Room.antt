@@ -8,7 +8,7 @@ use Rattle.std.specs.declared.option.Option.{Option}
 use Rattle.std.specs.declared.option.Option.the-variants.{Some, None}
 use Rattle.domain.specs.declared.Fault.{Fault}
 use Rattle.domain.specs.Meaning.{Meaning}
-use Rattle.semantics.specs.Instructions.{end, push-num, push-truth, access, push-closure, push-thunk, operate, compare, bind, unbind, apply, return, choose}
+use Rattle.semantics.specs.declared.layout.Instruction.the-variants.{End, PushNum, PushTruth, Access, PushClosure, PushThunk, Operate, Compare, Bind, Unbind, Apply, Return, Choose}
 use Rattle.semantics.specs.Running.{goes, ends, faults, stuck, Bounds, Halt, with-none-left, with-one-left}
 use Rattle.semantics.specs.Machine.{h-number, h-boolean, closure, val, thunk, return-to, State, at, MachineNext, step, no-room, machine-run, Steps, here, more}
 use Rattle.semantics.specs.Agreement.{RoomFor}
@@ -48,30 +48,30 @@ module _ (𝓜 : Meaning) where
     -- A step that faults has room: it takes none.
     pub faults-have-room : (s : State) {φ : Fault} {p : ℕ} → step 𝓜 s ≡ faults φ p → no-room L s ≡ None
     faults-have-room (at [] ρ c m) q = refl
-    faults-have-room (at (end ∷ k) ρ c m) q = refl
-    faults-have-room (at (push-num i ∷ k) ρ c m) q = clash cc
-    faults-have-room (at (push-truth b ∷ k) ρ c m) q = clash cc
-    faults-have-room (at (access x i ∷ k) ρ c m) q = clash cc
-    faults-have-room (at (push-closure x n ∷ k) ρ c m) q = clash cc
-    faults-have-room (at (push-thunk n ∷ k) ρ c m) q = clash cc
-    faults-have-room (at (operate o p ∷ k) ρ c m) q = refl
-    faults-have-room (at (compare p ∷ k) ρ c m) q = refl
-    faults-have-room (at (bind x ∷ k) ρ [] m) q = clash cc
-    faults-have-room (at (bind x ∷ k) ρ (val v ∷ c) m) q = clash cc
-    faults-have-room (at (bind x ∷ k) ρ (thunk k′ ρ′ ∷ c) m) q = clash cc
-    faults-have-room (at (bind x ∷ k) ρ (return-to k′ ρ′ ∷ c) m) q = clash cc
-    faults-have-room (at (unbind ∷ k) ρ c m) q = refl
-    faults-have-room (at (apply p ∷ k) ρ [] m) q = refl
-    faults-have-room (at (apply p ∷ k) ρ (w ∷ []) m) q = refl
-    faults-have-room (at (apply p ∷ k) ρ (w ∷ val (h-number i) ∷ c) m) q = refl
-    faults-have-room (at (apply p ∷ k) ρ (w ∷ val (h-boolean b) ∷ c) m) q = refl
-    faults-have-room (at (apply p ∷ k) ρ (val w ∷ val (closure x k′ ρ′) ∷ c) m) q = clash cc
-    faults-have-room (at (apply p ∷ k) ρ (thunk k₁ ρ₁ ∷ val (closure x k′ ρ′) ∷ c) m) q = clash cc
-    faults-have-room (at (apply p ∷ k) ρ (return-to k₁ ρ₁ ∷ val (closure x k′ ρ′) ∷ c) m) q = clash cc
-    faults-have-room (at (apply p ∷ k) ρ (w ∷ thunk k′ ρ′ ∷ c) m) q = refl
-    faults-have-room (at (apply p ∷ k) ρ (w ∷ return-to k′ ρ′ ∷ c) m) q = refl
-    faults-have-room (at (return ∷ k) ρ c m) q = refl
-    faults-have-room (at (choose p ∷ k) ρ c m) q = refl
+    faults-have-room (at (End ∷ k) ρ c m) q = refl
+    faults-have-room (at (PushNum i ∷ k) ρ c m) q = clash cc
+    faults-have-room (at (PushTruth b ∷ k) ρ c m) q = clash cc
+    faults-have-room (at (Access x i ∷ k) ρ c m) q = clash cc
+    faults-have-room (at (PushClosure x n ∷ k) ρ c m) q = clash cc
+    faults-have-room (at (PushThunk n ∷ k) ρ c m) q = clash cc
+    faults-have-room (at (Operate o p ∷ k) ρ c m) q = refl
+    faults-have-room (at (Compare p ∷ k) ρ c m) q = refl
+    faults-have-room (at (Bind x ∷ k) ρ [] m) q = clash cc
+    faults-have-room (at (Bind x ∷ k) ρ (val v ∷ c) m) q = clash cc
+    faults-have-room (at (Bind x ∷ k) ρ (thunk k′ ρ′ ∷ c) m) q = clash cc
+    faults-have-room (at (Bind x ∷ k) ρ (return-to k′ ρ′ ∷ c) m) q = clash cc
+    faults-have-room (at (Unbind ∷ k) ρ c m) q = refl
+    faults-have-room (at (Apply p ∷ k) ρ [] m) q = refl
+    faults-have-room (at (Apply p ∷ k) ρ (w ∷ []) m) q = refl
+    faults-have-room (at (Apply p ∷ k) ρ (w ∷ val (h-number i) ∷ c) m) q = refl
+    faults-have-room (at (Apply p ∷ k) ρ (w ∷ val (h-boolean b) ∷ c) m) q = refl
+    faults-have-room (at (Apply p ∷ k) ρ (val w ∷ val (closure x k′ ρ′) ∷ c) m) q = clash cc
+    faults-have-room (at (Apply p ∷ k) ρ (thunk k₁ ρ₁ ∷ val (closure x k′ ρ′) ∷ c) m) q = clash cc
+    faults-have-room (at (Apply p ∷ k) ρ (return-to k₁ ρ₁ ∷ val (closure x k′ ρ′) ∷ c) m) q = clash cc
+    faults-have-room (at (Apply p ∷ k) ρ (w ∷ thunk k′ ρ′ ∷ c) m) q = refl
+    faults-have-room (at (Apply p ∷ k) ρ (w ∷ return-to k′ ρ′ ∷ c) m) q = refl
+    faults-have-room (at (Return ∷ k) ρ c m) q = refl
+    faults-have-room (at (Choose p ∷ k) ρ c m) q = refl
 
     -- A run stops where some steps lead.
     pub run-stops-at-a-step : (g : ℕ) (s : State) → (n : ℕ) × Steps 𝓜 n s (machine-run 𝓜 L g s .state)

@@ -10,7 +10,8 @@ use Rattle.semantics.specs.Terms.{Term, num, truth, var, binop, eq, app, lam, 
 use Rattle.semantics.specs.Values.{Value, number, boolean, function}
 use Rattle.semantics.specs.Evaluation.{Computed, gives-number, gives-boolean, gives-fault, answered, operated, compared}
 use Rattle.semantics.specs.Substitution.{term-at, fill}
-use Rattle.semantics.specs.Instructions.{Instruction, push-thunk, unbind, return, choose}
+use Rattle.semantics.specs.declared.layout.Instruction.{Instruction}
+use Rattle.semantics.specs.declared.layout.Instruction.the-variants.{PushThunk, Unbind, Return, Choose}
 use Rattle.semantics.specs.Translation.{code-size, emit}
 use Rattle.semantics.specs.Running.{goes, ends, faults, stuck}
 use Rattle.semantics.specs.Machine.{Held, h-number, h-boolean, closure, HeldEnv, ∅, _◂_, Cell, val, thunk, State, at, MachineNext, fetch, sort-held, push-computed, enter, enter-branch, step}
@@ -104,17 +105,17 @@ module _ (𝓜 : Meaning) where
     wrap-reduces K _ _ (r-top (c-app (held-shows-value h) filled)),
   )
     where
-      filled : fill 0 (show-held h ∷ []) (read (emit (suc q) b (return ∷ r)) 1 (show-env ρ₁) [] []) ≡ read (emit (suc q) b (return ∷ r)) 0 (show-env (h ◂ ρ₁)) [] []
+      filled : fill 0 (show-held h ∷ []) (read (emit (suc q) b (Return ∷ r)) 1 (show-env ρ₁) [] []) ≡ read (emit (suc q) b (Return ∷ r)) 0 (show-env (h ◂ ρ₁)) [] []
       filled =
-          ap (fill 0 (show-held h ∷ [])) (read-emit (suc q) b (return ∷ r) 1 (show-env ρ₁) [] [])
+          ap (fill 0 (show-held h ∷ [])) (read-emit (suc q) b (Return ∷ r) 1 (show-env ρ₁) [] [])
           ∙ fill-front (show-held h) (show-env ρ₁) (shown-env-closed ρ₁ (ρf, fs)) b 0
-          ∙ sym (read-emit (suc q) b (return ∷ r) 0 (show-env (h ◂ ρ₁)) [] [])
+          ∙ sym (read-emit (suc q) b (Return ∷ r) 0 (show-env (h ◂ ρ₁)) [] [])
 
   -- A branch is entered.
   branch-kept : (p qt qe : ℕ) (t e : Term) (r₁ r₂ : List Instruction) (h : Held) {k : List Instruction} {ρ : HeldEnv} {c : List Cell} (m : ℕ) →
       GoodEnv ρ → Kont k ρ c →
-      Kept (wrap k ρ c (if-then (show-held h) (read (emit qt t (return ∷ r₁)) 0 (show-env ρ) [] []) (read (emit qe e (return ∷ r₂)) 0 (show-env ρ) [] []))) true
-      (enter-branch p h (emit qt t (return ∷ r₁)) ρ (emit qe e (return ∷ r₂)) ρ k ρ c m)
+      Kept (wrap k ρ c (if-then (show-held h) (read (emit qt t (Return ∷ r₁)) 0 (show-env ρ) [] []) (read (emit qe e (Return ∷ r₂)) 0 (show-env ρ) [] []))) true
+      (enter-branch p h (emit qt t (Return ∷ r₁)) ρ (emit qe e (Return ∷ r₂)) ρ k ρ c m)
   branch-kept p qt qe t e r₁ r₂ (h-number i) m g K = (tt, wrap-stuck K _ (no-rule 𝓜 (ready-if num-value) (λ u d. elim d [ ])))
   branch-kept p qt qe t e r₁ r₂ (h-boolean true) m g K = (on-term qt t g (k-return g K), wrap-reduces K _ _ (r-top (c-if refl)))
   branch-kept p qt qe t e r₁ r₂ (h-boolean false) m g K = (on-term qe e g (k-return g K), wrap-reduces K _ _ (r-top (c-if refl)))
@@ -130,35 +131,35 @@ module _ (𝓜 : Meaning) where
   term-kept (eq l r) p m g K = term-kept l (suc p) m g (k-eq-right p (suc p + size l) r g K)
   term-kept (app l r) p m g K = term-kept l (suc p) m g (k-app-right p (suc p + size l) r g K)
   term-kept (lam x b) p {k = k} {ρ = ρ} {c = c} m g K =
-      let body : List Instruction = emit (suc p) b (return ∷ k) in
+      let body : List Instruction = emit (suc p) b (Return ∷ k) in
       subst (λ i. Kept (show (at (emit p (lam x b) k) ρ c m)) false (goes (at i ρ (val (closure x body ρ) ∷ c) m))) (sym (drop-body (suc p) b k)) (
         on-value (function x b p (g .0), fits-function k (g .1)) K,
-        ap (λ z. wrap k ρ c (lam x z)) (read-emit (suc p) b (return ∷ k) 1 (show-env ρ) [] []) ∙ sym (frame-read p (lam x b) k ρ [] (own-cells c) c),
+        ap (λ z. wrap k ρ c (lam x z)) (read-emit (suc p) b (Return ∷ k) 1 (show-env ρ) [] []) ∙ sym (frame-read p (lam x b) k ρ [] (own-cells c) c),
       )
   term-kept (let-in x a b) p m g K = term-kept a (suc p) m g (k-let-bound x (suc p + size a) b g K)
   term-kept (if-then q t e) p {k = k} {ρ = ρ} {c = c} m g K =
       let qt : ℕ = suc p + size q in
-      let after : List Instruction = push-thunk (suc (code-size e)) ∷ else-code p q t e k in
+      let after : List Instruction = PushThunk (suc (code-size e)) ∷ else-code p q t e k in
       let thn : List Instruction = then-code p q t e k in
       subst (λ i. Kept (show (at (emit p (if-then q t e) k) ρ c m)) false (goes (at i ρ (thunk thn ρ ∷ c) m))) (sym (drop-body qt t after)) (
         between-thunks p (suc p + size q + size t) t e q qt after g K,
-        ap (λ z. through-frames (read after 0 (show-env ρ) [] (z ∷ own-cells c)) c) (read-emit qt t (return ∷ after) 0 (show-env ρ) [] [])
-            ∙ sym (frame-read qt t (return ∷ after) ρ (in-thunk ∷ []) (own-cells c) c),
+        ap (λ z. through-frames (read after 0 (show-env ρ) [] (z ∷ own-cells c)) c) (read-emit qt t (Return ∷ after) 0 (show-env ρ) [] [])
+            ∙ sym (frame-read qt t (Return ∷ after) ρ (in-thunk ∷ []) (own-cells c) c),
       )
 
   -- The step between an If's two thunks.
   thunk-kept : (p qe : ℕ) (t e q : Term) (qt : ℕ) (r₁ : List Instruction) {ρ : HeldEnv} {k : List Instruction} {c : List Cell} (m : ℕ) → GoodEnv ρ →
       Kont k ρ c →
-      StepKept (at (push-thunk (suc (code-size e)) ∷ emit qe e (return ∷ emit (suc p) q (choose p ∷ k))) ρ (thunk (emit qt t (return ∷ r₁)) ρ ∷ c) m)
+      StepKept (at (PushThunk (suc (code-size e)) ∷ emit qe e (Return ∷ emit (suc p) q (Choose p ∷ k))) ρ (thunk (emit qt t (Return ∷ r₁)) ρ ∷ c) m)
   thunk-kept p qe t e q qt r₁ {ρ = ρ} {k = k} {c = c} m g K =
-      let cnd : List Instruction = emit (suc p) q (choose p ∷ k) in
-      let els : List Instruction = emit qe e (return ∷ cnd) in
-      let cells : List Cell = thunk (emit qt t (return ∷ r₁)) ρ ∷ c in
-      let s : State = at (push-thunk (suc (code-size e)) ∷ els) ρ cells m in
+      let cnd : List Instruction = emit (suc p) q (Choose p ∷ k) in
+      let els : List Instruction = emit qe e (Return ∷ cnd) in
+      let cells : List Cell = thunk (emit qt t (Return ∷ r₁)) ρ ∷ c in
+      let s : State = at (PushThunk (suc (code-size e)) ∷ els) ρ cells m in
       subst (λ i. Kept (show s) false (goes (at i ρ (thunk els ρ ∷ cells) m))) (sym (drop-body qe e cnd)) (
         on-term (suc p) q g (k-if p qt qe t e r₁ cnd g K),
-        ap (λ z. through-frames (read cnd 0 (show-env ρ) [] (z ∷ own-cells cells)) c) (read-emit qe e (return ∷ cnd) 0 (show-env ρ) [] [])
-            ∙ sym (frame-read qe e (return ∷ cnd) ρ (in-thunk ∷ []) (own-cells cells) c),
+        ap (λ z. through-frames (read cnd 0 (show-env ρ) [] (z ∷ own-cells cells)) c) (read-emit qe e (Return ∷ cnd) 0 (show-env ρ) [] [])
+            ∙ sym (frame-read qe e (Return ∷ cnd) ρ (in-thunk ∷ []) (own-cells cells) c),
       )
 
   -- The step with a value on top, by what waits for it.
@@ -174,8 +175,8 @@ module _ (𝓜 : Meaning) where
   value-kept {h = h} m g (k-let-bound x q b {ρ = ρ} {k = k} {c = c} gs K) = (
     on-term q b (good-more h ρ g gs) (k-let-body K),
     subst₂ (Reduces 𝓜)
-        (sym (frame-read q b (unbind ∷ k) ρ (in-let x (show-held h) ∷ []) (own-cells c) c))
-        (sym (frame-read q b (unbind ∷ k) (h ◂ ρ) [] (own-cells c) c))
+        (sym (frame-read q b (Unbind ∷ k) ρ (in-let x (show-held h) ∷ []) (own-cells c) c))
+        (sym (frame-read q b (Unbind ∷ k) (h ◂ ρ) [] (own-cells c) c))
         (wrap-reduces K _ _ (r-top (c-let {x = x} (held-shows-value h) (fill-front (show-held h) (show-env ρ) (shown-env-closed ρ gs) b 0)))),
   )
   value-kept m g (k-let-body K) = (on-value g K, refl)

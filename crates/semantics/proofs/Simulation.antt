@@ -7,10 +7,11 @@ use native.Mathlib.Omega.{arith}
 use lib.ListN.{drop}
 use Rattle.domain.specs.declared.Fault.{Fault}
 use Rattle.domain.specs.Meaning.{Meaning}
+use Rattle.semantics.specs.declared.layout.Instruction.{Instruction}
+use Rattle.semantics.specs.declared.layout.Instruction.the-variants.{PushNum, PushTruth, Access, PushThunk, Operate, Compare, Unbind, Apply, Return, Choose}
 use Rattle.semantics.specs.Terms.{Term, num, truth, var, binop, eq, app, lam, let-in, if-then, size}
 use Rattle.semantics.specs.Values.{Value, number, boolean, function, Env, ε, _▸_, look, Outcome, yields, fails}
 use Rattle.semantics.specs.Evaluation.{condition-no-boolean, applied-no-function, engine-fault, sort-of, Computed, gives-number, gives-boolean, gives-fault, operated, compared, outcome-at, NotFunction, NotBoolean, closing, branch, branch-place, Evals, e-num, e-truth, e-var, e-lam, e-binop, e-binop-left, e-binop-right, e-eq, e-eq-left, e-eq-right, e-app, e-app-no, e-app-left, e-app-right, e-let, e-let-left, e-if, e-if-no, e-if-left}
-use Rattle.semantics.specs.Instructions.{Instruction, push-num, push-truth, access, push-thunk, operate, compare, unbind, apply, return, choose}
 use Rattle.semantics.specs.Translation.{code-size, emit}
 use Rattle.semantics.specs.Running.{goes, faults}
 use Rattle.semantics.specs.Machine.{Held, h-number, h-boolean, closure, HeldEnv, ∅, _◂_, Cell, val, thunk, return-to, State, at, fetch, sort-held, push-computed, step, Steps, here, more}
@@ -20,9 +21,9 @@ recount k e = ap (λ i. drop i k) e
 
 -- Dropping as many instructions as a term has goes past its code.
 drop-emit : (p : ℕ) (t : Term) (k : List Instruction) (n : ℕ) → drop (code-size t + n) (emit p t k) ≡ drop n k
-drop-emit p (num c) k n = let e : 1 + n ≡ suc n = omega arith in recount (push-num c ∷ k) e
-drop-emit p (truth b) k n = let e : 1 + n ≡ suc n = omega arith in recount (push-truth b ∷ k) e
-drop-emit p (var x i) k n = let e : 1 + n ≡ suc n = omega arith in recount (access x i ∷ k) e
+drop-emit p (num c) k n = let e : 1 + n ≡ suc n = omega arith in recount (PushNum c ∷ k) e
+drop-emit p (truth b) k n = let e : 1 + n ≡ suc n = omega arith in recount (PushTruth b ∷ k) e
+drop-emit p (var x i) k n = let e : 1 + n ≡ suc n = omega arith in recount (Access x i ∷ k) e
 drop-emit p (binop o l r) k n =
     let e : (code-size l + (code-size r + 1)) + n ≡ code-size l + (code-size r + suc n) = omega arith in
     recount _ e ∙ drop-emit (suc p) l _ (code-size r + suc n) ∙ drop-emit (suc p + size l) r _ (suc n)
@@ -44,8 +45,8 @@ drop-emit p (if-then c t f) k n =
     ∙ drop-emit (suc p + size c + size t) f _ (suc (code-size c + suc n)) ∙ drop-emit (suc p) c _ (suc n)
 
 -- CLOSURE and THUNK go past the body.
-pub drop-body : (p : ℕ) (b : Term) (k : List Instruction) → drop (suc (code-size b)) (emit p b (return ∷ k)) ≡ k
-drop-body p b k = let e : suc (code-size b) ≡ code-size b + 1 = omega arith in recount _ e ∙ drop-emit p b (return ∷ k) 1
+pub drop-body : (p : ℕ) (b : Term) (k : List Instruction) → drop (suc (code-size b)) (emit p b (Return ∷ k)) ≡ k
+drop-body p b k = let e : suc (code-size b) ≡ code-size b + 1 = omega arith in recount _ e ∙ drop-emit p b (Return ∷ k) 1
 
 -- What the machine holds stands for a value.
 mutual
@@ -53,7 +54,7 @@ mutual
     fits-number : {c : ℕ} → Fits (h-number c) (number c)
     fits-boolean : {b : Bool} → Fits (h-boolean b) (boolean b)
     fits-function : {x : ℕ} {b : Term} {p : ℕ} {ρ : Env} {ρ′ : HeldEnv} (k : List Instruction) →
-        FitsEnv ρ′ ρ → Fits (closure x (emit (suc p) b (return ∷ k)) ρ′) (function x b p ρ)
+        FitsEnv ρ′ ρ → Fits (closure x (emit (suc p) b (Return ∷ k)) ρ′) (function x b p ρ)
 
   pub data FitsEnv : HeldEnv → Env → Type 0 where
     fits-none : FitsEnv ∅ ε
@@ -71,10 +72,10 @@ fits-sort (fits-function k fs) = refl
 
 -- The code of an If up to its condition.
 abbrev pub else-code : ℕ → Term → Term → Term → List Instruction → List Instruction
-else-code p q t e k = emit (suc p + size q + size t) e (return ∷ emit (suc p) q (choose p ∷ k))
+else-code p q t e k = emit (suc p + size q + size t) e (Return ∷ emit (suc p) q (Choose p ∷ k))
 
 abbrev pub then-code : ℕ → Term → Term → Term → List Instruction → List Instruction
-then-code p q t e k = emit (suc p + size q) t (return ∷ push-thunk (suc (code-size e)) ∷ else-code p q t e k)
+then-code p q t e k = emit (suc p + size q) t (Return ∷ PushThunk (suc (code-size e)) ∷ else-code p q t e k)
 
 module _ (𝓜 : Meaning) where
   -- Steps one after the other.
@@ -119,12 +120,12 @@ module _ (𝓜 : Meaning) where
   -- APPLY enters the body of what stands for a function, and faults on anything else.
   pub apply-step : {h : Held} {x : ℕ} {b : Term} {q : ℕ} {ρ : Env} → Fits h (function x b q ρ) →
       (r : List Instruction) × (ρ₁ : HeldEnv) × FitsEnv ρ₁ ρ × ((p : ℕ) (k : List Instruction) (ρ′ : HeldEnv) (c : List Cell) (m : ℕ) (w : Held) →
-      step 𝓜 (at (apply p ∷ k) ρ′ (val w ∷ val h ∷ c) m) ≡ goes (at (emit (suc q) b (return ∷ r)) (w ◂ ρ₁) (return-to k ρ′ ∷ c) (suc m)))
+      step 𝓜 (at (Apply p ∷ k) ρ′ (val w ∷ val h ∷ c) m) ≡ goes (at (emit (suc q) b (Return ∷ r)) (w ◂ ρ₁) (return-to k ρ′ ∷ c) (suc m)))
   apply-step (fits-function {ρ′ = ρ₁} r fs) = (r, ρ₁, fs, λ p k ρ′ c m w. refl)
 
   pub apply-no : {h : Held} {v : Value} → Fits h v → NotFunction (sort-of v) →
       (p : ℕ) (k : List Instruction) (ρ : HeldEnv) (c : List Cell) (m : ℕ) (w : Held) →
-      step 𝓜 (at (apply p ∷ k) ρ (val w ∷ val h ∷ c) m) ≡ faults (engine-fault applied-no-function) p
+      step 𝓜 (at (Apply p ∷ k) ρ (val w ∷ val h ∷ c) m) ≡ faults (engine-fault applied-no-function) p
   apply-no fits-number nf p k ρ c m w = refl
   apply-no fits-boolean nf p k ρ c m w = refl
   apply-no (fits-function r fs) nf p k ρ c m w = elim nf [ ]
@@ -132,7 +133,7 @@ module _ (𝓜 : Meaning) where
   -- IF faults on what stands for no boolean.
   pub if-no : {h : Held} {v : Value} → Fits h v → NotBoolean (sort-of v) →
       (p : ℕ) (k : List Instruction) (ρ : HeldEnv) (c : List Cell) (m : ℕ) (kt ke : List Instruction) →
-      step 𝓜 (at (choose p ∷ k) ρ (val h ∷ thunk ke ρ ∷ thunk kt ρ ∷ c) m) ≡ faults (engine-fault condition-no-boolean) p
+      step 𝓜 (at (Choose p ∷ k) ρ (val h ∷ thunk ke ρ ∷ thunk kt ρ ∷ c) m) ≡ faults (engine-fault condition-no-boolean) p
   if-no fits-number nb p k ρ c m kt ke = refl
   if-no fits-boolean nb p k ρ c m kt ke = elim nb [ ]
   if-no (fits-function r fs) nb p k ρ c m kt ke = refl
@@ -140,26 +141,26 @@ module _ (𝓜 : Meaning) where
   -- The two steps of an If before its condition, and the first of them.
   pub if-starts : (p : ℕ) (q t e : Term) (k : List Instruction) (ρ : HeldEnv) (c : List Cell) (m : ℕ) →
       Steps 𝓜 2 (at (emit p (if-then q t e) k) ρ c m)
-      (at (emit (suc p) q (choose p ∷ k)) ρ (thunk (else-code p q t e k) ρ ∷ thunk (then-code p q t e k) ρ ∷ c) m)
+      (at (emit (suc p) q (Choose p ∷ k)) ρ (thunk (else-code p q t e k) ρ ∷ thunk (then-code p q t e k) ρ ∷ c) m)
   if-starts p q t e k ρ c m =
-      more (ap (λ i. goes (at i ρ (thunk (then-code p q t e k) ρ ∷ c) m)) (drop-body (suc p + size q) t (push-thunk (suc (code-size e)) ∷ else-code p q t e k)))
-      (more (ap (λ i. goes (at i ρ (thunk (else-code p q t e k) ρ ∷ thunk (then-code p q t e k) ρ ∷ c) m)) (drop-body (suc p + size q + size t) e (emit (suc p) q (choose p ∷ k)))) here)
+      more (ap (λ i. goes (at i ρ (thunk (then-code p q t e k) ρ ∷ c) m)) (drop-body (suc p + size q) t (PushThunk (suc (code-size e)) ∷ else-code p q t e k)))
+      (more (ap (λ i. goes (at i ρ (thunk (else-code p q t e k) ρ ∷ thunk (then-code p q t e k) ρ ∷ c) m)) (drop-body (suc p + size q + size t) e (emit (suc p) q (Choose p ∷ k)))) here)
 
   pub if-half : (p : ℕ) (q t e : Term) (k : List Instruction) (ρ : HeldEnv) (c : List Cell) (m : ℕ) →
-      Steps 𝓜 1 (at (emit p (if-then q t e) k) ρ c m) (at (push-thunk (suc (code-size e)) ∷ else-code p q t e k) ρ (thunk (then-code p q t e k) ρ ∷ c) m)
+      Steps 𝓜 1 (at (emit p (if-then q t e) k) ρ c m) (at (PushThunk (suc (code-size e)) ∷ else-code p q t e k) ρ (thunk (then-code p q t e k) ρ ∷ c) m)
   if-half p q t e k ρ c m =
-      more (ap (λ i. goes (at i ρ (thunk (then-code p q t e k) ρ ∷ c) m)) (drop-body (suc p + size q) t (push-thunk (suc (code-size e)) ∷ else-code p q t e k))) here
+      more (ap (λ i. goes (at i ρ (thunk (then-code p q t e k) ρ ∷ c) m)) (drop-body (suc p + size q) t (PushThunk (suc (code-size e)) ∷ else-code p q t e k))) here
 
   -- IF enters the branch chosen, and its RETURN leaves it.
   if-ends : (b : Bool) {h : Held} → Fits h (boolean b) →
       (p : ℕ) (q t e : Term) (k : List Instruction) (ρ : HeldEnv) (c : List Cell) (m a : ℕ) {s : State} (o : Outcome) (j : ℕ) →
-      Steps 𝓜 a s (at (choose p ∷ k) ρ (val h ∷ thunk (else-code p q t e k) ρ ∷ thunk (then-code p q t e k) ρ ∷ c) m) →
+      Steps 𝓜 a s (at (Choose p ∷ k) ρ (val h ∷ thunk (else-code p q t e k) ρ ∷ thunk (then-code p q t e k) ρ ∷ c) m) →
       ((k′ : List Instruction) (c′ : List Cell) (m′ : ℕ) → Reaches (at (emit (branch-place p b q t) (branch b t e) k′) ρ c′ m′) k′ ρ c′ o j) →
       (n : ℕ) → n ≡ a + 1 + j + closing o → Reaches s k ρ c o n
   if-ends true fits-boolean p q t e k ρ c m a o j d ih n u =
-      leaves-body o (λ h m. refl) (one-step-more d refl (a + 1) refl) (ih (return ∷ push-thunk (suc (code-size e)) ∷ else-code p q t e k) (return-to k ρ ∷ c) m) n u
+      leaves-body o (λ h m. refl) (one-step-more d refl (a + 1) refl) (ih (Return ∷ PushThunk (suc (code-size e)) ∷ else-code p q t e k) (return-to k ρ ∷ c) m) n u
   if-ends false fits-boolean p q t e k ρ c m a o j d ih n u =
-      leaves-body o (λ h m. refl) (one-step-more d refl (a + 1) refl) (ih (return ∷ emit (suc p) q (choose p ∷ k)) (return-to k ρ ∷ c) m) n u
+      leaves-body o (λ h m. refl) (one-step-more d refl (a + 1) refl) (ih (Return ∷ emit (suc p) q (Choose p ∷ k)) (return-to k ρ ∷ c) m) n u
 
   -- From the first instruction of a term the machine reaches the outcome that the rules give, in as many steps as they count
   -- units.
@@ -170,11 +171,11 @@ module _ (𝓜 : Meaning) where
   simulates (e-var {i = i} {n = n} e u) ρ′ fs k c m =
       gets (fetch ρ′ i) m (one-step-more here refl n (omega arith)) (subst (λ v. Fits (fetch ρ′ i) v) e (fits-look fs i))
   simulates (e-lam {p = p} {x = x} {b = b} {n = n} u) ρ′ fs k c m =
-      let body : List Instruction = emit (suc p) b (return ∷ k) in
+      let body : List Instruction = emit (suc p) b (Return ∷ k) in
       gets (closure x body ρ′) m (one-step-more here (ap (λ i. goes (at i ρ′ (val (closure x body ρ′) ∷ c) m)) (drop-body (suc p) b k)) n (omega arith)) (fits-function k fs)
   simulates (e-binop {p = p} {o = o} {l = l} {r = r} {v = v} {w = w} {m = i} {k = j} {n = n} dl dr e u) ρ′ fs k c m =
-      let (hv, m₁, s₁, fv) = value-reached (simulates dl ρ′ fs (emit (suc p + size l) r (operate o p ∷ k)) c m) in
-      let (hw, m₂, s₂, fw) = value-reached (simulates dr ρ′ fs (operate o p ∷ k) (val hv ∷ c) m₁) in
+      let (hv, m₁, s₁, fv) = value-reached (simulates dl ρ′ fs (emit (suc p + size l) r (Operate o p ∷ k)) c m) in
+      let (hw, m₂, s₂, fw) = value-reached (simulates dr ρ′ fs (Operate o p ∷ k) (val hv ∷ c) m₁) in
       subst (λ d. Reaches (at (emit p (binop o l r) k) ρ′ c m) k ρ′ c d n) e
       (pushed p (operated 𝓜 o (sort-of v) (sort-of w)) k ρ′ c m₂ (join s₁ s₂ (i + j) refl) (ap₂ (λ a b. push-computed p (operated 𝓜 o a b) k ρ′ c m₂) (fits-sort fv) (fits-sort fw)) n u)
   simulates (e-binop-left {n = n} dl) ρ′ fs k c m = fault-later here (simulates dl ρ′ fs _ c m) n (omega arith)
@@ -182,8 +183,8 @@ module _ (𝓜 : Meaning) where
       let (hv, m₁, s₁, fv) = value-reached (simulates dl ρ′ fs _ c m) in
       fault-later s₁ (simulates dr ρ′ fs _ (val hv ∷ c) m₁) n u
   simulates (e-eq {p = p} {l = l} {r = r} {v = v} {w = w} {m = i} {k = j} {n = n} dl dr e u) ρ′ fs k c m =
-      let (hv, m₁, s₁, fv) = value-reached (simulates dl ρ′ fs (emit (suc p + size l) r (compare p ∷ k)) c m) in
-      let (hw, m₂, s₂, fw) = value-reached (simulates dr ρ′ fs (compare p ∷ k) (val hv ∷ c) m₁) in
+      let (hv, m₁, s₁, fv) = value-reached (simulates dl ρ′ fs (emit (suc p + size l) r (Compare p ∷ k)) c m) in
+      let (hw, m₂, s₂, fw) = value-reached (simulates dr ρ′ fs (Compare p ∷ k) (val hv ∷ c) m₁) in
       subst (λ d. Reaches (at (emit p (eq l r) k) ρ′ c m) k ρ′ c d n) e
       (pushed p (compared 𝓜 (sort-of v) (sort-of w)) k ρ′ c m₂ (join s₁ s₂ (i + j) refl) (ap₂ (λ a b. push-computed p (compared 𝓜 a b) k ρ′ c m₂) (fits-sort fv) (fits-sort fw)) n u)
   simulates (e-eq-left {n = n} dl) ρ′ fs k c m = fault-later here (simulates dl ρ′ fs _ c m) n (omega arith)
@@ -194,7 +195,7 @@ module _ (𝓜 : Meaning) where
       let (hf, m₁, s₁, ff) = value-reached (simulates df ρ′ fs _ c m) in
       let (hw, m₂, s₂, fw) = value-reached (simulates da ρ′ fs _ (val hf ∷ c) m₁) in
       let (r, ρ₁, fs₁, go) = apply-step ff in
-      leaves-body o (λ h m. refl) (one-step-more (join s₁ s₂ (i + j) refl) (go p k ρ′ c m₂ hw) (i + j + 1) refl) (simulates db (hw ◂ ρ₁) (fits-more fw fs₁) (return ∷ r) (return-to k ρ′ ∷ c) (suc m₂)) n u
+      leaves-body o (λ h m. refl) (one-step-more (join s₁ s₂ (i + j) refl) (go p k ρ′ c m₂ hw) (i + j + 1) refl) (simulates db (hw ◂ ρ₁) (fits-more fw fs₁) (Return ∷ r) (return-to k ρ′ ∷ c) (suc m₂)) n u
   simulates (e-app-no {p = p} {m = i} {k = j} {n = n} df da nf u) ρ′ fs k c m =
       let (hf, m₁, s₁, ff) = value-reached (simulates df ρ′ fs _ c m) in
       let (hw, m₂, s₂, fw) = value-reached (simulates da ρ′ fs _ (val hf ∷ c) m₁) in
@@ -205,7 +206,7 @@ module _ (𝓜 : Meaning) where
       fault-later s₁ (simulates da ρ′ fs _ (val hv ∷ c) m₁) n u
   simulates (e-let {o = o} {m = i} {n = n} da db u) ρ′ fs k c m =
       let (hv, m₁, s₁, fv) = value-reached (simulates da ρ′ fs _ c m) in
-      leaves-body o (λ h m. refl) (one-step-more s₁ refl (i + 1) refl) (simulates db (hv ◂ ρ′) (fits-more fv fs) (unbind ∷ k) c (suc m₁)) n u
+      leaves-body o (λ h m. refl) (one-step-more s₁ refl (i + 1) refl) (simulates db (hv ◂ ρ′) (fits-more fv fs) (Unbind ∷ k) c (suc m₁)) n u
   simulates (e-let-left {n = n} da) ρ′ fs k c m = fault-later here (simulates da ρ′ fs _ c m) n (omega arith)
   simulates (e-if {p = p} {c = q} {t = t} {e = e} {b = b} {o = o} {m = i} {k = j} {n = n} dc db u) ρ′ fs k c m =
       let (hv, m₁, s₁, fv) = value-reached (simulates dc ρ′ fs _ (thunk (else-code p q t e k) ρ′ ∷ thunk (then-code p q t e k) ρ′ ∷ c) m) in

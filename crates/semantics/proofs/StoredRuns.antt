@@ -7,8 +7,8 @@ use lib.ListN.{length, drop, length-map}
 use Rattle.std.specs.declared.option.Option.{Option}
 use Rattle.std.specs.declared.option.Option.the-variants.{Some, None}
 use Rattle.domain.specs.Meaning.{Meaning}
+use Rattle.semantics.specs.declared.layout.Instruction.{Instruction}
 use Rattle.semantics.specs.Terms.{Term}
-use Rattle.semantics.specs.Instructions.{Instruction}
 use Rattle.semantics.specs.Translation.{translate}
 use Rattle.semantics.specs.Running.{goes, ends, faults, stuck, Bounds, Halt, halting, second, Report, reports, one-unit-more, with-none-left, with-one-left}
 use Rattle.semantics.specs.Machine.{Held, h-number, HeldEnv, _◂_, State, at, MachineNext, step, is-function, cell-is-function, no-room, held-inputs, start, machine-run}

@@ -5,8 +5,9 @@ use mathlib.Core.List.{List, [], _∷_, _++_}
 use Prim.Native.Nat.{ℕ, zero, suc}
 use lib.Dec.{eqb}
 use Rattle.semantics.specs.declared.layout.Node.{Node}
+use Rattle.semantics.specs.declared.layout.Label.{Label}
 use Rattle.semantics.specs.Terms.{Term}
-use Rattle.semantics.specs.Listing.{Label, kind-binop, kind-eq, kind-app, kind-lam, kind-let, kind-if, record-of, listing-before, listing}
+use Rattle.semantics.specs.Listing.{kind-binop, kind-eq, kind-app, kind-lam, kind-let, kind-if, record-of, listing-before, listing}
 
 -- How many terms are owed after a record of kind k, where m are owed besides it: one more for each of its children.
 abbrev pub owed-after : ℕ → ℕ → ℕ

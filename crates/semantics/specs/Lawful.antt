@@ -4,28 +4,29 @@ use mathlib.Core.Bool.{true}
 use mathlib.Core.List.{List, [], _∷_}
 use Prim.Native.Nat.{ℕ}
 use Rattle.domain.specs.Meaning.{Meaning}
+use Rattle.semantics.specs.declared.layout.Instruction.{Instruction}
+use Rattle.semantics.specs.declared.layout.Instruction.the-variants.{End, PushNum, PushTruth, Access, PushClosure, PushThunk, Operate, Compare, Bind, Unbind, Apply, Return, Choose}
 use Rattle.semantics.specs.Terms.{Term}
 use Rattle.semantics.specs.Scope.{LawfulTerm}
-use Rattle.semantics.specs.Instructions.{Instruction, end, push-num, push-truth, access, push-closure, push-thunk, operate, compare, bind, unbind, apply, return, choose}
 use Rattle.semantics.specs.Translation.{translate}
 use Rattle.semantics.specs.Running.{goes, ends, faults, stuck, Bounds}
 use Rattle.semantics.specs.StoredMachine.{Word, w-number, w-boolean, w-closure, Slot, s-val, s-thunk, s-return, StoreCell, in-front, StoredState, at-place, StoredNext, stored-step, stored-start, stored-run}
 
 -- Every number in an instruction, in code, in what the stored machine holds.
 abbrev pub LawfulInstruction : Meaning → Instruction → Type 0
-LawfulInstruction 𝓜 end = Unit {0}
-LawfulInstruction 𝓜 (push-num c) = 𝓜 .lawful c ≡ true
-LawfulInstruction 𝓜 (push-truth b) = Unit {0}
-LawfulInstruction 𝓜 (access x i) = Unit {0}
-LawfulInstruction 𝓜 (push-closure x n) = Unit {0}
-LawfulInstruction 𝓜 (push-thunk n) = Unit {0}
-LawfulInstruction 𝓜 (operate o p) = Unit {0}
-LawfulInstruction 𝓜 (compare p) = Unit {0}
-LawfulInstruction 𝓜 (bind x) = Unit {0}
-LawfulInstruction 𝓜 unbind = Unit {0}
-LawfulInstruction 𝓜 (apply p) = Unit {0}
-LawfulInstruction 𝓜 return = Unit {0}
-LawfulInstruction 𝓜 (choose p) = Unit {0}
+LawfulInstruction 𝓜 End = Unit {0}
+LawfulInstruction 𝓜 (PushNum c) = 𝓜 .lawful c ≡ true
+LawfulInstruction 𝓜 (PushTruth b) = Unit {0}
+LawfulInstruction 𝓜 (Access x i) = Unit {0}
+LawfulInstruction 𝓜 (PushClosure x n) = Unit {0}
+LawfulInstruction 𝓜 (PushThunk n) = Unit {0}
+LawfulInstruction 𝓜 (Operate o p) = Unit {0}
+LawfulInstruction 𝓜 (Compare p) = Unit {0}
+LawfulInstruction 𝓜 (Bind x) = Unit {0}
+LawfulInstruction 𝓜 Unbind = Unit {0}
+LawfulInstruction 𝓜 (Apply p) = Unit {0}
+LawfulInstruction 𝓜 Return = Unit {0}
+LawfulInstruction 𝓜 (Choose p) = Unit {0}
 
 abbrev pub LawfulCode : Meaning → List Instruction → Type 0
 LawfulCode 𝓜 [] = Unit {0}

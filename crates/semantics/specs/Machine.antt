@@ -6,9 +6,10 @@ use Prim.Native.Nat.{ℕ, zero, suc}
 use lib.ListN.{length, drop}
 use Rattle.std.specs.declared.option.Option.{Option}
 use Rattle.domain.specs.Meaning.{Meaning}
+use Rattle.semantics.specs.declared.layout.Instruction.{Instruction}
+use Rattle.semantics.specs.declared.layout.Instruction.the-variants.{End, PushNum, PushTruth, Access, PushClosure, PushThunk, Operate, Compare, Bind, Unbind, Apply, Return, Choose}
 use Rattle.semantics.specs.Terms.{Term}
 use Rattle.semantics.specs.Evaluation.{condition-no-boolean, applied-no-function, engine-fault, Sort, a-number, a-boolean, a-function, Computed, gives-number, gives-boolean, gives-fault, operated, compared}
-use Rattle.semantics.specs.Instructions.{Instruction, end, push-num, push-truth, access, push-closure, push-thunk, operate, compare, bind, unbind, apply, return, choose}
 use Rattle.semantics.specs.Translation.{translate}
 use Rattle.semantics.specs.Running.{Next, goes, ends, faults, stuck, Bounds, Halt, halting, second, Report, run}
 
@@ -99,31 +100,31 @@ abbrev pub step : Meaning → State → MachineNext
 -- Past the code there is nothing.
 step 𝓜 (at [] ρ s m) = stuck
 -- At END the run ends with the top value.
-step 𝓜 (at (end ∷ k) ρ s m) = pop s (λ v s. ends v)
+step 𝓜 (at (End ∷ k) ρ s m) = pop s (λ v s. ends v)
 -- NUM pushes a number.
-step 𝓜 (at (push-num c ∷ k) ρ s m) = goes (at k ρ (val (h-number c) ∷ s) m)
+step 𝓜 (at (PushNum c ∷ k) ρ s m) = goes (at k ρ (val (h-number c) ∷ s) m)
 -- BOOL pushes a boolean.
-step 𝓜 (at (push-truth b ∷ k) ρ s m) = goes (at k ρ (val (h-boolean b) ∷ s) m)
+step 𝓜 (at (PushTruth b ∷ k) ρ s m) = goes (at k ρ (val (h-boolean b) ∷ s) m)
 -- ACCESS pushes the environment's value.
-step 𝓜 (at (access x i ∷ k) ρ s m) = goes (at k ρ (val (fetch ρ i) ∷ s) m)
+step 𝓜 (at (Access x i ∷ k) ρ s m) = goes (at k ρ (val (fetch ρ i) ∷ s) m)
 -- CLOSURE pushes its body's place with the environment, and goes past the body.
-step 𝓜 (at (push-closure x n ∷ k) ρ s m) = goes (at (drop n k) ρ (val (closure x k ρ) ∷ s) m)
+step 𝓜 (at (PushClosure x n ∷ k) ρ s m) = goes (at (drop n k) ρ (val (closure x k ρ) ∷ s) m)
 -- THUNK does the same for a branch.
-step 𝓜 (at (push-thunk n ∷ k) ρ s m) = goes (at (drop n k) ρ (thunk k ρ ∷ s) m)
+step 𝓜 (at (PushThunk n ∷ k) ρ s m) = goes (at (drop n k) ρ (thunk k ρ ∷ s) m)
 -- OP pops right, then left, and pushes the domain's answer.
-step 𝓜 (at (operate o p ∷ k) ρ s m) = pop s (λ w s. pop s (λ v s. push-computed p (operated 𝓜 o (sort-held v) (sort-held w)) k ρ s m))
+step 𝓜 (at (Operate o p ∷ k) ρ s m) = pop s (λ w s. pop s (λ v s. push-computed p (operated 𝓜 o (sort-held v) (sort-held w)) k ρ s m))
 -- EQ pops right, then left, and pushes whether they are the same.
-step 𝓜 (at (compare p ∷ k) ρ s m) = pop s (λ w s. pop s (λ v s. push-computed p (compared 𝓜 (sort-held v) (sort-held w)) k ρ s m))
+step 𝓜 (at (Compare p ∷ k) ρ s m) = pop s (λ w s. pop s (λ v s. push-computed p (compared 𝓜 (sort-held v) (sort-held w)) k ρ s m))
 -- LET pops a value to the environment's front.
-step 𝓜 (at (bind x ∷ k) ρ s m) = pop s (λ v s. goes (at k (v ◂ ρ) s (suc m)))
+step 𝓜 (at (Bind x ∷ k) ρ s m) = pop s (λ v s. goes (at k (v ◂ ρ) s (suc m)))
 -- ENDLET drops the front. Its cell stays stored.
-step 𝓜 (at (unbind ∷ k) ρ s m) = goes (at k (without-front ρ) s m)
+step 𝓜 (at (Unbind ∷ k) ρ s m) = goes (at k (without-front ρ) s m)
 -- APPLY pops argument and function, and enters the function's body.
-step 𝓜 (at (apply p ∷ k) ρ s m) = pop s (λ w s. pop s (λ f s. enter p f w k ρ s m))
+step 𝓜 (at (Apply p ∷ k) ρ s m) = pop s (λ w s. pop s (λ f s. enter p f w k ρ s m))
 -- RETURN keeps the top value, drops the return cell under it and resumes there.
-step 𝓜 (at (return ∷ k) ρ s m) = pop s (λ v s. pop-return s (λ k′ ρ′ s. goes (at k′ ρ′ (val v ∷ s) m)))
+step 𝓜 (at (Return ∷ k) ρ s m) = pop s (λ v s. pop-return s (λ k′ ρ′ s. goes (at k′ ρ′ (val v ∷ s) m)))
 -- IF pops the condition, the else-thunk and the then-thunk, and enters the one chosen.
-step 𝓜 (at (choose p ∷ k) ρ s m) = pop s (λ c s. pop-thunk s (λ ke ρe s. pop-thunk s (λ kt ρt s. enter-branch p c kt ρt ke ρe k ρ s m)))
+step 𝓜 (at (Choose p ∷ k) ρ s m) = pop s (λ c s. pop-thunk s (λ ke ρe s. pop-thunk s (λ kt ρt s. enter-branch p c kt ρt ke ρe k ρ s m)))
 
 -- Whether a cell holds a function.
 abbrev pub is-function : Sort → Bool

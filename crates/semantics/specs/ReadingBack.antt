@@ -8,10 +8,12 @@ use lib.ListN.{length}
 use Rattle.domain.specs.declared.Op.{Op}
 use Rattle.domain.specs.declared.Op.the-variants.{Add, Sub, Mul, Div}
 use Rattle.semantics.specs.declared.layout.Instr.{Instr}
+use Rattle.semantics.specs.declared.layout.Instruction.{Instruction}
+use Rattle.semantics.specs.declared.layout.Instruction.the-variants.{End, PushNum, PushTruth, Access, PushClosure, PushThunk, Operate, Compare, Bind, Unbind, Apply, Return, Choose}
 use Rattle.semantics.specs.Terms.{Term}
 use Rattle.semantics.specs.Scope.{InScope}
 use Rattle.semantics.specs.Listing.{op-number}
-use Rattle.semantics.specs.Instructions.{Instruction, end, push-num, push-truth, access, push-closure, push-thunk, operate, compare, bind, unbind, apply, return, choose, kind-end, kind-push-num, kind-push-truth, kind-access, kind-closure, kind-thunk, kind-operate, kind-compare, kind-bind, kind-unbind, kind-apply, kind-return, encode}
+use Rattle.semantics.specs.Instructions.{kind-end, kind-push-num, kind-push-truth, kind-access, kind-closure, kind-thunk, kind-operate, kind-compare, kind-bind, kind-unbind, kind-apply, kind-return, encode}
 use Rattle.semantics.specs.Translation.{translate}
 use Rattle.semantics.specs.Showing.{read}
 
@@ -34,19 +36,19 @@ index-back (suc i) = i
 -- The instruction that a record lays out, its node's place left open. (The answer for what is in no table is arbitrary.)
 abbrev pub decode : Instr → Instruction
 decode r =
-    cond (eqb (r .kind) kind-end) end
-    (cond (eqb (r .kind) kind-push-num) (push-num (r .number))
-    (cond (eqb (r .kind) kind-push-truth) (push-truth (bit-back (r .number)))
-    (cond (eqb (r .kind) kind-access) (access (r .name) (index-back (r .number)))
-    (cond (eqb (r .kind) kind-closure) (push-closure (r .name) (r .number))
-    (cond (eqb (r .kind) kind-thunk) (push-thunk (r .number))
-    (cond (eqb (r .kind) kind-operate) (operate (op-back (r .number)) 0)
-    (cond (eqb (r .kind) kind-compare) (compare 0)
-    (cond (eqb (r .kind) kind-bind) (bind (r .name))
-    (cond (eqb (r .kind) kind-unbind) unbind
-    (cond (eqb (r .kind) kind-apply) (apply 0)
-    (cond (eqb (r .kind) kind-return) return
-    (choose 0))))))))))))
+    cond (eqb (r .kind) kind-end) End
+    (cond (eqb (r .kind) kind-push-num) (PushNum (r .number))
+    (cond (eqb (r .kind) kind-push-truth) (PushTruth (bit-back (r .number)))
+    (cond (eqb (r .kind) kind-access) (Access (r .name) (index-back (r .number)))
+    (cond (eqb (r .kind) kind-closure) (PushClosure (r .name) (r .number))
+    (cond (eqb (r .kind) kind-thunk) (PushThunk (r .number))
+    (cond (eqb (r .kind) kind-operate) (Operate (op-back (r .number)) 0)
+    (cond (eqb (r .kind) kind-compare) (Compare 0)
+    (cond (eqb (r .kind) kind-bind) (Bind (r .name))
+    (cond (eqb (r .kind) kind-unbind) Unbind
+    (cond (eqb (r .kind) kind-apply) (Apply 0)
+    (cond (eqb (r .kind) kind-return) Return
+    (Choose 0))))))))))))
 
 -- The term that code reads as, where there are n inputs.
 abbrev pub read-code : ℕ → List Instr → Term

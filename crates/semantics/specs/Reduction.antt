@@ -7,11 +7,12 @@ use Prim.Native.Nat.{ℕ, zero, suc}
 use Rattle.std.specs.declared.result.Result.the-variants.{Ok}
 use Rattle.domain.specs.declared.Op.{Op}
 use Rattle.domain.specs.Meaning.{Meaning}
+use Rattle.semantics.specs.declared.layout.Instruction.{Instruction}
+use Rattle.semantics.specs.declared.layout.Instruction.the-variants.{End, PushNum, PushTruth, Access, PushClosure, PushThunk, Operate, Compare, Bind, Unbind, Apply, Return, Choose}
 use Rattle.semantics.specs.Terms.{Term, num, truth, binop, eq, app, lam, let-in, if-then}
 use Rattle.semantics.specs.Values.{input-env}
 use Rattle.semantics.specs.Evaluation.{branch}
 use Rattle.semantics.specs.Substitution.{fill, close}
-use Rattle.semantics.specs.Instructions.{Instruction, end, push-num, push-truth, access, push-closure, push-thunk, operate, compare, bind, unbind, apply, return, choose}
 use Rattle.semantics.specs.Running.{goes, ends, faults, stuck, Bounds}
 use Rattle.semantics.specs.Machine.{State, at, MachineNext, step, start, machine-run, Steps, here, more}
 use Rattle.semantics.specs.Showing.{show-held, show}
@@ -70,19 +71,19 @@ IsStuck 𝓜 t = (IsValue t → ⊥) × ((t′ : Term) → Reduces 𝓜 t t′ �
 
 -- The instructions whose step contracts the shown term: OP, EQ, LET, APPLY and IF.
 abbrev pub contracts : Instruction → Bool
-contracts end = false
-contracts (push-num c) = false
-contracts (push-truth b) = false
-contracts (access x i) = false
-contracts (push-closure x n) = false
-contracts (push-thunk n) = false
-contracts (operate o p) = true
-contracts (compare p) = true
-contracts (bind x) = true
-contracts unbind = false
-contracts (apply p) = true
-contracts return = false
-contracts (choose p) = true
+contracts End = false
+contracts (PushNum c) = false
+contracts (PushTruth b) = false
+contracts (Access x i) = false
+contracts (PushClosure x n) = false
+contracts (PushThunk n) = false
+contracts (Operate o p) = true
+contracts (Compare p) = true
+contracts (Bind x) = true
+contracts Unbind = false
+contracts (Apply p) = true
+contracts Return = false
+contracts (Choose p) = true
 
 -- Whether the next step from a state contracts.
 abbrev pub contracting : State → Bool

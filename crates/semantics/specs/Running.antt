@@ -6,7 +6,8 @@ use lib.Dec.{leb}
 use Rattle.std.specs.declared.option.Option.{Option}
 use Rattle.std.specs.declared.option.Option.the-variants.{Some, None}
 use Rattle.domain.specs.declared.Fault.{Fault}
-use Rattle.semantics.specs.Instructions.{Instruction, end, push-num, push-truth, access, push-closure, push-thunk, operate, compare, bind, unbind, apply, return, choose}
+use Rattle.semantics.specs.declared.layout.Instruction.{Instruction}
+use Rattle.semantics.specs.declared.layout.Instruction.the-variants.{End, PushNum, PushTruth, Access, PushClosure, PushThunk, Operate, Compare, Bind, Unbind, Apply, Return, Choose}
 
 -- What a step comes to, for a machine with states S that ends with a V. A fault names its node. `stuck` is for code that
 -- is no translation.
@@ -38,19 +39,19 @@ no-cell cells used w = cond (leb cells used) (Some w) None
 -- is a function.
 abbrev pub halting : Bounds → List Instruction → (held : ℕ) (valid : Bool) (stored : ℕ) → Option Halt
 halting L [] h v m = None
-halting L (end ∷ k) h v m = None
-halting L (push-num c ∷ k) h v m = no-cell (L .stack) h for-stack
-halting L (push-truth b ∷ k) h v m = no-cell (L .stack) h for-stack
-halting L (access x i ∷ k) h v m = no-cell (L .stack) h for-stack
-halting L (push-closure x n ∷ k) h v m = no-cell (L .stack) h for-stack
-halting L (push-thunk n ∷ k) h v m = no-cell (L .stack) h for-stack
-halting L (operate o p ∷ k) h v m = None
-halting L (compare p ∷ k) h v m = None
-halting L (bind x ∷ k) h v m = no-cell (L .store) m for-store
-halting L (unbind ∷ k) h v m = None
-halting L (apply p ∷ k) h v m = cond v (no-cell (L .store) m for-store) None
-halting L (return ∷ k) h v m = None
-halting L (choose p ∷ k) h v m = None
+halting L (End ∷ k) h v m = None
+halting L (PushNum c ∷ k) h v m = no-cell (L .stack) h for-stack
+halting L (PushTruth b ∷ k) h v m = no-cell (L .stack) h for-stack
+halting L (Access x i ∷ k) h v m = no-cell (L .stack) h for-stack
+halting L (PushClosure x n ∷ k) h v m = no-cell (L .stack) h for-stack
+halting L (PushThunk n ∷ k) h v m = no-cell (L .stack) h for-stack
+halting L (Operate o p ∷ k) h v m = None
+halting L (Compare p ∷ k) h v m = None
+halting L (Bind x ∷ k) h v m = no-cell (L .store) m for-store
+halting L (Unbind ∷ k) h v m = None
+halting L (Apply p ∷ k) h v m = cond v (no-cell (L .store) m for-store) None
+halting L (Return ∷ k) h v m = None
+halting L (Choose p ∷ k) h v m = None
 
 -- Whether the second cell of a stack is of some sort.
 abbrev pub second : {C : Type 0} → (C → Bool) → List C → Bool

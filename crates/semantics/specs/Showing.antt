@@ -1,9 +1,10 @@
 -- Showing: the term that a state stands for, read off its code forward, frame by frame.
 use mathlib.Core.List.{List, [], _∷_}
 use Prim.Native.Nat.{ℕ, suc}
+use Rattle.semantics.specs.declared.layout.Instruction.{Instruction}
+use Rattle.semantics.specs.declared.layout.Instruction.the-variants.{End, PushNum, PushTruth, Access, PushClosure, PushThunk, Operate, Compare, Bind, Unbind, Apply, Return, Choose}
 use Rattle.semantics.specs.Terms.{Term, num, truth, var, binop, eq, app, lam, let-in, if-then}
 use Rattle.semantics.specs.Substitution.{fill}
-use Rattle.semantics.specs.Instructions.{Instruction, end, push-num, push-truth, access, push-closure, push-thunk, operate, compare, bind, unbind, apply, return, choose}
 use Rattle.semantics.specs.Machine.{Held, h-number, h-boolean, closure, HeldEnv, ∅, _◂_, Cell, val, thunk, return-to, State, at}
 
 -- What the reader has opened and not yet closed.
@@ -33,30 +34,30 @@ rest (t ∷ s) = s
 abbrev pub read : List Instruction → ℕ → List Term → List Mark → List Term → Term
 -- The code is read when END comes, or the RETURN of what was being read.
 read [] k σ ms s = top s
-read (end ∷ c) k σ ms s = top s
+read (End ∷ c) k σ ms s = top s
 -- Leaves are pushed. A variable that no binder ahead holds is replaced.
-read (push-num n ∷ c) k σ ms s = read c k σ ms (num n ∷ s)
-read (push-truth b ∷ c) k σ ms s = read c k σ ms (truth b ∷ s)
-read (access x i ∷ c) k σ ms s = read c k σ ms (fill (holding k ms) σ (var x i) ∷ s)
+read (PushNum n ∷ c) k σ ms s = read c k σ ms (num n ∷ s)
+read (PushTruth b ∷ c) k σ ms s = read c k σ ms (truth b ∷ s)
+read (Access x i ∷ c) k σ ms s = read c k σ ms (fill (holding k ms) σ (var x i) ∷ s)
 -- CLOSURE and THUNK open a body, and RETURN closes it.
-read (push-closure x n ∷ c) k σ ms s = read c k σ (in-lambda x ∷ ms) s
-read (push-thunk n ∷ c) k σ ms s = read c k σ (in-thunk ∷ ms) s
+read (PushClosure x n ∷ c) k σ ms s = read c k σ (in-lambda x ∷ ms) s
+read (PushThunk n ∷ c) k σ ms s = read c k σ (in-thunk ∷ ms) s
 -- OP, EQ and APPLY make a node of the two terms on top.
-read (operate o p ∷ c) k σ ms s = read c k σ ms (binop o (top (rest s)) (top s) ∷ rest (rest s))
-read (compare p ∷ c) k σ ms s = read c k σ ms (eq (top (rest s)) (top s) ∷ rest (rest s))
+read (Operate o p ∷ c) k σ ms s = read c k σ ms (binop o (top (rest s)) (top s) ∷ rest (rest s))
+read (Compare p ∷ c) k σ ms s = read c k σ ms (eq (top (rest s)) (top s) ∷ rest (rest s))
 -- LET opens a node with what is on top, and its ENDLET closes it. An ENDLET whose LET has run drops the front value.
-read (bind x ∷ c) k σ ms s = read c k σ (in-let x (top s) ∷ ms) (rest s)
-read (unbind ∷ c) k σ [] s = read c k (rest σ) [] s
-read (unbind ∷ c) k σ (in-lambda x ∷ ms) s = top s
-read (unbind ∷ c) k σ (in-thunk ∷ ms) s = top s
-read (unbind ∷ c) k σ (in-let x a ∷ ms) s = read c k σ ms (let-in x a (top s) ∷ rest s)
-read (apply p ∷ c) k σ ms s = read c k σ ms (app (top (rest s)) (top s) ∷ rest (rest s))
-read (return ∷ c) k σ [] s = top s
-read (return ∷ c) k σ (in-lambda x ∷ ms) s = read c k σ ms (lam x (top s) ∷ rest s)
-read (return ∷ c) k σ (in-thunk ∷ ms) s = read c k σ ms s
-read (return ∷ c) k σ (in-let x a ∷ ms) s = top s
+read (Bind x ∷ c) k σ ms s = read c k σ (in-let x (top s) ∷ ms) (rest s)
+read (Unbind ∷ c) k σ [] s = read c k (rest σ) [] s
+read (Unbind ∷ c) k σ (in-lambda x ∷ ms) s = top s
+read (Unbind ∷ c) k σ (in-thunk ∷ ms) s = top s
+read (Unbind ∷ c) k σ (in-let x a ∷ ms) s = read c k σ ms (let-in x a (top s) ∷ rest s)
+read (Apply p ∷ c) k σ ms s = read c k σ ms (app (top (rest s)) (top s) ∷ rest (rest s))
+read (Return ∷ c) k σ [] s = top s
+read (Return ∷ c) k σ (in-lambda x ∷ ms) s = read c k σ ms (lam x (top s) ∷ rest s)
+read (Return ∷ c) k σ (in-thunk ∷ ms) s = read c k σ ms s
+read (Return ∷ c) k σ (in-let x a ∷ ms) s = top s
 -- IF makes a node of three: the condition is on top, the else-branch under it, the then-branch below.
-read (choose p ∷ c) k σ ms s = read c k σ ms (if-then (top s) (top (rest (rest s))) (top (rest s)) ∷ rest (rest (rest s)))
+read (Choose p ∷ c) k σ ms s = read c k σ ms (if-then (top s) (top (rest (rest s))) (top (rest s)) ∷ rest (rest (rest s)))
 
 -- How what the machine holds shows: a closure as its Lambda, read with its own binder ahead.
 abbrev mutual

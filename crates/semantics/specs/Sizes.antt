@@ -4,9 +4,10 @@ use mathlib.Core.Bool.{true}
 use mathlib.Core.List.{List, [], _∷_}
 use Prim.Native.Nat.{ℕ, zero, suc, _≤_}
 use lib.ListN.{length}
+use Rattle.semantics.specs.declared.layout.Instruction.{Instruction}
+use Rattle.semantics.specs.declared.layout.Instruction.the-variants.{End, PushNum, PushTruth, Access, PushClosure, PushThunk, Operate, Compare, Bind, Unbind, Apply, Return, Choose}
 use Rattle.semantics.specs.Terms.{Term, truth, lam, if-then, size}
 use Rattle.semantics.specs.Listing.{listing}
-use Rattle.semantics.specs.Instructions.{Instruction, end, push-num, push-truth, access, push-closure, push-thunk, operate, compare, bind, unbind, apply, return, choose}
 use Rattle.semantics.specs.Translation.{code-size, translate}
 
 -- `size` is how many records the listing of a term has, and `code-size` how many instructions stand before END.
@@ -48,19 +49,19 @@ BoundedLength n = (least-length ≤ n) × (n ≤ most-instructions)
 
 -- The length in an instruction, if it has one, is bounded; and so is every length in code.
 abbrev pub BoundedInstruction : Instruction → Type 0
-BoundedInstruction end = Unit {0}
-BoundedInstruction (push-num c) = Unit {0}
-BoundedInstruction (push-truth b) = Unit {0}
-BoundedInstruction (access x i) = Unit {0}
-BoundedInstruction (push-closure x n) = BoundedLength n
-BoundedInstruction (push-thunk n) = BoundedLength n
-BoundedInstruction (operate o p) = Unit {0}
-BoundedInstruction (compare p) = Unit {0}
-BoundedInstruction (bind x) = Unit {0}
-BoundedInstruction unbind = Unit {0}
-BoundedInstruction (apply p) = Unit {0}
-BoundedInstruction return = Unit {0}
-BoundedInstruction (choose p) = Unit {0}
+BoundedInstruction End = Unit {0}
+BoundedInstruction (PushNum c) = Unit {0}
+BoundedInstruction (PushTruth b) = Unit {0}
+BoundedInstruction (Access x i) = Unit {0}
+BoundedInstruction (PushClosure x n) = BoundedLength n
+BoundedInstruction (PushThunk n) = BoundedLength n
+BoundedInstruction (Operate o p) = Unit {0}
+BoundedInstruction (Compare p) = Unit {0}
+BoundedInstruction (Bind x) = Unit {0}
+BoundedInstruction Unbind = Unit {0}
+BoundedInstruction (Apply p) = Unit {0}
+BoundedInstruction Return = Unit {0}
+BoundedInstruction (Choose p) = Unit {0}
 
 abbrev pub BoundedCode : List Instruction → Type 0
 BoundedCode [] = Unit {0}

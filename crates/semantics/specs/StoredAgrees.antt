@@ -7,8 +7,9 @@ use Prim.Native.Nat.{ℕ, zero, suc, _+_, _≤_}
 use lib.Dec.{eqb}
 use lib.ListN.{length, drop}
 use Rattle.domain.specs.Meaning.{Meaning}
+use Rattle.semantics.specs.declared.layout.Instruction.{Instruction}
+use Rattle.semantics.specs.declared.layout.Instruction.the-variants.{End, PushNum, PushTruth, Access, PushClosure, PushThunk, Operate, Compare, Bind, Unbind, Apply, Return, Choose}
 use Rattle.semantics.specs.Terms.{Term}
-use Rattle.semantics.specs.Instructions.{Instruction, end, push-num, push-truth, access, push-closure, push-thunk, operate, compare, bind, unbind, apply, return, choose}
 use Rattle.semantics.specs.Translation.{translate}
 use Rattle.semantics.specs.Running.{Next, goes, ends, faults, stuck, Bounds, Status, running, ended, failed, halted, broken, reports}
 use Rattle.semantics.specs.Machine.{Held, h-number, h-boolean, closure, HeldEnv, ∅, _◂_, Cell, val, thunk, return-to, State, at, step}
@@ -18,19 +19,19 @@ use Rattle.semantics.specs.StoredMachine.{Word, w-number, w-boolean, w-closure
 -- The name of the CLOSURE in front of the code.
 abbrev pub closure-name : List Instruction → ℕ
 closure-name [] = 0
-closure-name (end ∷ k) = 0
-closure-name (push-num c ∷ k) = 0
-closure-name (push-truth b ∷ k) = 0
-closure-name (access x i ∷ k) = 0
-closure-name (push-closure x n ∷ k) = x
-closure-name (push-thunk n ∷ k) = 0
-closure-name (operate o p ∷ k) = 0
-closure-name (compare p ∷ k) = 0
-closure-name (bind x ∷ k) = 0
-closure-name (unbind ∷ k) = 0
-closure-name (apply p ∷ k) = 0
-closure-name (return ∷ k) = 0
-closure-name (choose p ∷ k) = 0
+closure-name (End ∷ k) = 0
+closure-name (PushNum c ∷ k) = 0
+closure-name (PushTruth b ∷ k) = 0
+closure-name (Access x i ∷ k) = 0
+closure-name (PushClosure x n ∷ k) = x
+closure-name (PushThunk n ∷ k) = 0
+closure-name (Operate o p ∷ k) = 0
+closure-name (Compare p ∷ k) = 0
+closure-name (Bind x ∷ k) = 0
+closure-name (Unbind ∷ k) = 0
+closure-name (Apply p ∷ k) = 0
+closure-name (Return ∷ k) = 0
+closure-name (Choose p ∷ k) = 0
 
 -- The name of the closure whose body begins at a place: its CLOSURE stands before it.
 abbrev pub name-before : List Instruction → ℕ → ℕ

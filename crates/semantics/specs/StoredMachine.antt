@@ -7,8 +7,9 @@ use lib.Dec.{eqb}
 use lib.ListN.{length, drop}
 use Rattle.std.specs.declared.option.Option.{Option}
 use Rattle.domain.specs.Meaning.{Meaning}
+use Rattle.semantics.specs.declared.layout.Instruction.{Instruction}
+use Rattle.semantics.specs.declared.layout.Instruction.the-variants.{End, PushNum, PushTruth, Access, PushClosure, PushThunk, Operate, Compare, Bind, Unbind, Apply, Return, Choose}
 use Rattle.semantics.specs.Evaluation.{condition-no-boolean, applied-no-function, engine-fault, Sort, a-number, a-boolean, a-function, Computed, gives-number, gives-boolean, gives-fault, operated, compared}
-use Rattle.semantics.specs.Instructions.{Instruction, end, push-num, push-truth, access, push-closure, push-thunk, operate, compare, bind, unbind, apply, return, choose}
 use Rattle.semantics.specs.Running.{Next, goes, ends, faults, stuck, Bounds, Halt, halting, second, Report, run}
 use Rattle.semantics.specs.Machine.{is-function}
 
@@ -98,19 +99,19 @@ stored-enter-branch p (w-closure b e′) pt et pe ee q e s σ = faults (engine-f
 -- One instruction, at place q.
 abbrev pub perform : Meaning → List Instruction → ℕ → ℕ → List Slot → List StoreCell → StoredNext
 perform 𝓜 [] q e s σ = stuck
-perform 𝓜 (end ∷ k) q e s σ = pop-slot s (λ w s. ends (w, σ))
-perform 𝓜 (push-num c ∷ k) q e s σ = goes (at-place (suc q) e (s-val (w-number c) ∷ s) σ)
-perform 𝓜 (push-truth b ∷ k) q e s σ = goes (at-place (suc q) e (s-val (w-boolean b) ∷ s) σ)
-perform 𝓜 (access x i ∷ k) q e s σ = goes (at-place (suc q) e (s-val (walk σ i e) ∷ s) σ)
-perform 𝓜 (push-closure x n ∷ k) q e s σ = goes (at-place (suc q + n) e (s-val (w-closure (suc q) e) ∷ s) σ)
-perform 𝓜 (push-thunk n ∷ k) q e s σ = goes (at-place (suc q + n) e (s-thunk (suc q) e ∷ s) σ)
-perform 𝓜 (operate o p ∷ k) q e s σ = pop-slot s (λ w s. pop-slot s (λ v s. stored-push p (operated 𝓜 o (sort-word v) (sort-word w)) (suc q) e s σ))
-perform 𝓜 (compare p ∷ k) q e s σ = pop-slot s (λ w s. pop-slot s (λ v s. stored-push p (compared 𝓜 (sort-word v) (sort-word w)) (suc q) e s σ))
-perform 𝓜 (bind x ∷ k) q e s σ = pop-slot s (λ w s. goes (at-place (suc q) (suc (length σ)) s (in-front w e ∷ σ)))
-perform 𝓜 (unbind ∷ k) q e s σ = goes (at-place (suc q) (behind (cell-at σ e)) s σ)
-perform 𝓜 (apply p ∷ k) q e s σ = pop-slot s (λ w s. pop-slot s (λ f s. stored-enter p f w (suc q) e s σ))
-perform 𝓜 (return ∷ k) q e s σ = pop-slot s (λ w s. pop-slot-return s (λ q′ e′ s. goes (at-place q′ e′ (s-val w ∷ s) σ)))
-perform 𝓜 (choose p ∷ k) q e s σ =
+perform 𝓜 (End ∷ k) q e s σ = pop-slot s (λ w s. ends (w, σ))
+perform 𝓜 (PushNum c ∷ k) q e s σ = goes (at-place (suc q) e (s-val (w-number c) ∷ s) σ)
+perform 𝓜 (PushTruth b ∷ k) q e s σ = goes (at-place (suc q) e (s-val (w-boolean b) ∷ s) σ)
+perform 𝓜 (Access x i ∷ k) q e s σ = goes (at-place (suc q) e (s-val (walk σ i e) ∷ s) σ)
+perform 𝓜 (PushClosure x n ∷ k) q e s σ = goes (at-place (suc q + n) e (s-val (w-closure (suc q) e) ∷ s) σ)
+perform 𝓜 (PushThunk n ∷ k) q e s σ = goes (at-place (suc q + n) e (s-thunk (suc q) e ∷ s) σ)
+perform 𝓜 (Operate o p ∷ k) q e s σ = pop-slot s (λ w s. pop-slot s (λ v s. stored-push p (operated 𝓜 o (sort-word v) (sort-word w)) (suc q) e s σ))
+perform 𝓜 (Compare p ∷ k) q e s σ = pop-slot s (λ w s. pop-slot s (λ v s. stored-push p (compared 𝓜 (sort-word v) (sort-word w)) (suc q) e s σ))
+perform 𝓜 (Bind x ∷ k) q e s σ = pop-slot s (λ w s. goes (at-place (suc q) (suc (length σ)) s (in-front w e ∷ σ)))
+perform 𝓜 (Unbind ∷ k) q e s σ = goes (at-place (suc q) (behind (cell-at σ e)) s σ)
+perform 𝓜 (Apply p ∷ k) q e s σ = pop-slot s (λ w s. pop-slot s (λ f s. stored-enter p f w (suc q) e s σ))
+perform 𝓜 (Return ∷ k) q e s σ = pop-slot s (λ w s. pop-slot-return s (λ q′ e′ s. goes (at-place q′ e′ (s-val w ∷ s) σ)))
+perform 𝓜 (Choose p ∷ k) q e s σ =
     pop-slot s (λ w s. pop-slot-thunk s (λ pe ee s. pop-slot-thunk s (λ pt et s. stored-enter-branch p w pt et pe ee (suc q) e s σ)))
 
 -- One step of code C.
