@@ -26,7 +26,7 @@ emit-length (if-then c t f) p k e =
     ap suc (emit-length t _ _ (ap suc (ap suc (emit-length f _ _ (ap suc (emit-length c _ _ (ap suc e))))))) ∙ omega arith
 
 -- A term puts as many records as its size says before those behind it.
-listing-length : (t : Term) (ns : List Node) {n : ℕ} → length ns ≡ n → length (listing-before t ns) ≡ size t + n
+pub listing-length : (t : Term) (ns : List Node) {n : ℕ} → length ns ≡ n → length (listing-before t ns) ≡ size t + n
 listing-length (num c) ns e = omega arith
 listing-length (truth b) ns e = omega arith
 listing-length (var x i) ns e = omega arith
@@ -44,7 +44,7 @@ sizes-are-lengths = record {
 }
 
 -- Three records bring at most seven instructions: an If with two leaves for its branches does.
-code-size-bounded : (t : Term) → 3 * code-size t + 4 ≤ 7 * size t
+pub code-size-bounded : (t : Term) → 3 * code-size t + 4 ≤ 7 * size t
 code-size-bounded (num c) = omega arith
 code-size-bounded (truth b) = omega arith
 code-size-bounded (var x i) = omega arith

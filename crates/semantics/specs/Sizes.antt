@@ -22,6 +22,10 @@ most-records = 512
 abbrev pub most-instructions : ℕ
 most-instructions = 1194
 
+-- The most names of inputs.
+abbrev pub most-names : ℕ
+most-names = 32
+
 -- The least length of a body: one instruction and its RETURN.
 abbrev pub least-length : ℕ
 least-length = 2

@@ -47,6 +47,15 @@ pub enum Label {
     If,
 }
 
+/// The most records of a listing.
+pub const MOST_RECORDS: usize = 512;
+
+/// The most names of inputs.
+pub const MOST_NAMES: usize = 32;
+
+/// The most instructions of a code.
+pub const MOST_INSTRUCTIONS: usize = 1_194;
+
 /// A record of a listing.
 #[derive(Clone, Copy, PartialEq, Eq)]
 pub struct Node {
