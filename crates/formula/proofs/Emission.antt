@@ -25,7 +25,8 @@ use Rattle.semantics.proofs.CodeSize.{code-size-bounded}
 use Rattle.formula.specs.declared.translate.Extent.{Extent}
 use Rattle.formula.specs.Label.{labelOf}
 use Rattle.formula.specs.Translate.{max-u16, measured-at, Measured, Grows, Emits, EmitsPair, EmitsBody}
-use Rattle.formula.proofs.Measuring.{further, past-listing, within, label-read}
+use Rattle.formula.proofs.Measuring.{further, past-listing, within}
+use Rattle.formula.proofs.Labels.{label-of-record}
 
 -- A term whose root has a label.
 pub data Rooted : Label → Term → Type 0 where
@@ -41,13 +42,15 @@ pub data Rooted : Label → Term → Type 0 where
 
 -- The term that begins at a place is rooted in what the record there says.
 module _ (row : List Node) (p : ℕ) (d : Node) where
+  -- The first record of a term says the label of its root.
   first-says : (l : Label) (ns : List Node) → drop p row ≡ record-of l ∷ ns → labelOf (getD row p d) ≡ Some l
   first-says l ns e =
       let lt : p < length row = omega (arith, sym (length-drop p row) ∙ ap length e) in
       let front : getD row p d ∷ drop (p + 1) row ≡ record-of l ∷ ns = sym (drop-more row p d lt) ∙ e in
       let first : getD row p d ≡ record-of l = cc in
-      ap labelOf first ∙ label-read l
+      ap labelOf first ∙ label-of-record l
 
+  -- Every term has a root.
   root : (t : Term) (rest : List Node) → drop p row ≡ listing-before t rest → (l : Label) × Rooted l t × (labelOf (getD row p d) ≡ Some l)
   root (num c) rest e = (Num c, a-num c, first-says _ _ e)
   root (truth b) rest e = (Truth b, a-truth b, first-says _ _ e)
@@ -59,6 +62,7 @@ module _ (row : List Node) (p : ℕ) (d : Node) where
   root (let-in x a b) rest e = (Let x, a-let x a b, first-says (Let x) _ e)
   root (if-then c t f) rest e = (If, an-if c t f, first-says If _ e)
 
+  -- What the record says is the root's label.
   pub rooted : {l m : Label} → m ≡ l → Some m ≡ labelOf (getD row p d) → (t : Term) (rest : List Node) → drop p row ≡ listing-before t rest → Rooted l t
   rooted {l = l} {m = m} is-l says t rest e =
       let R = root t rest e in
@@ -66,6 +70,7 @@ module _ (row : List Node) (p : ℕ) (d : Node) where
       let is : R .0 ≡ l = cc in
       subst (λ m. Rooted m t) is (R .1)
 
+  -- No term begins with a record outside the table.
   pub no-term-unsaid : labelOf (getD row p d) ≡ None → (t : Term) (rest : List Node) → drop p row ≡ listing-before t rest → ⊥
   no-term-unsaid unsaid t rest e =
       let says : labelOf (getD row p d) ≡ Some (root t rest e .0) = root t rest e .2 in
@@ -96,6 +101,7 @@ module _ {Z : Type 0} where
         added = λ room k. G .added (second room) k ∙ F .added (first room) (g k);
       }
 
+  -- The count may be written in another way.
   counted : {a b : Vec Instruction Z} {m n : ℕ} {f : List Instruction → List Instruction} → m ≡ n → Grows a b m f → Grows a b n f
   counted {a = a} {b = b} {f = f} e F = subst (λ n. Grows a b n f) e F
 
@@ -166,10 +172,12 @@ module _ (row : List Node) (xs : List Extent) (long : length row ≤ most-record
         EmitsPair row (p + 1) (Apply p) a b → Grows a b (code-size t) (emit p t)
     emits-app rest (an-app l r) at E = two-children (Apply p) l r rest at E
 
+    -- A Lambda: its body behind CLOSURE.
     pub emits-lam : {a b : Vec Instruction Z} {x : ℕ} {t : Term} (rest : List Node) (n : ℕ) → Rooted (Lam x) t → drop p row ≡ listing-before t rest →
         n ≡ min (measured-at xs (p + 1) .instructions + 1) max-u16 → EmitsBody row (p + 1) (PushClosure x n) a b → Grows a b (code-size t) (emit p t)
     emits-lam rest n (a-lam x body) at is E = body-placed (PushClosure x) (p + 1) (suc p) n body rest E (first-child at) (omega arith) is
 
+    -- A Let: what it binds, LET, the body and ENDLET.
     pub emits-let : {a b c d e : Vec Instruction Z} {x : ℕ} {t : Term} (rest : List Node) (second : ℕ) → Rooted (Let x) t → drop p row ≡ listing-before t rest →
         second ≡ p + 1 + measured-at xs (p + 1) .records → Emits row (p + 1) a b → Grows b c 1 (λ k. Bind x ∷ k) → Emits row second c d → Grows d e 1 (λ k. Unbind ∷ k) →
         Grows a e (code-size t) (emit p t)
@@ -180,6 +188,7 @@ module _ (row : List Node) (xs : List Extent) (long : length row ≤ most-record
         (and-then (placed (p + 1) (suc p) bound (listing-before body rest) A first (omega arith))
         (and-then O (and-then (placed second (suc p + size bound) body rest B (next .1) (omega (arith, next .0))) C)))
 
+    -- An If: both branches behind a THUNK, then the condition, then IF.
     pub emits-if : {a b c d e : Vec Instruction Z} {t : Term} (rest : List Node) (second third m n : ℕ) → Rooted If t → drop p row ≡ listing-before t rest →
         second ≡ p + 1 + measured-at xs (p + 1) .records → third ≡ second + measured-at xs second .records →
         m ≡ min (measured-at xs second .instructions + 1) max-u16 → n ≡ min (measured-at xs third .instructions + 1) max-u16 →

@@ -1,5 +1,5 @@
 -- Measuring from the last record to the first measures every term.
-use mathlib.Core.Path.{_≡_, refl, sym, ap, subst, _∙_}
+use mathlib.Core.Path.{_≡_, refl, sym, ap, _∙_}
 use mathlib.Core.Bool.{true, false}
 use mathlib.Core.List.{List, [], _∷_, _++_, reverse}
 use Prim.Native.Nat.{ℕ, zero, suc, _+_, _-_, _*_, _<_, _≤_, min}
@@ -7,9 +7,7 @@ use native.Mathlib.Nat.{min-eq-left}
 use native.Mathlib.Omega.{arith}
 use lib.ListN.{length, drop, getD}
 use Rattle.std.proofs.shelf.Lists.{reverse-append, length-reverse, length-drop, getD-reverse, getD-default, getD-past, drop-drop, drop-more}
-use Rattle.std.specs.declared.option.Option.{Option}
-use Rattle.std.specs.declared.option.Option.the-variants.{Some, None}
-use Rattle.domain.specs.declared.Op.{Op}
+use Rattle.std.specs.declared.option.Option.the-variants.{Some}
 use Rattle.domain.specs.declared.Op.the-variants.{Add, Sub, Mul, Div}
 use Rattle.semantics.specs.declared.layout.Node.{Node}
 use Rattle.semantics.specs.declared.layout.Label.{Label}
@@ -21,16 +19,20 @@ use Rattle.semantics.specs.Sizes.{most-records}
 use Rattle.semantics.proofs.CodeSize.{listing-length, code-size-bounded}
 use Rattle.formula.specs.declared.translate.Extent.{Extent}
 use Rattle.formula.specs.Label.{labelOf}
+use Rattle.formula.proofs.Labels.{label-of-record}
 use Rattle.formula.specs.Translate.{extent, max-u16, together, measured-at, with-child, whole, measure-of, Measured}
 
--- A row read from its end.
+-- Rows read from their end.
 module _ {A : Type 0} where
+  -- What stands so many from the end.
   pub read-from-end : (xs : List A) (n : ℕ) (x d : A) → n < length xs → x ≡ getD xs (length xs - 1 - n) x → x ≡ getD (reverse xs) n d
   read-from-end xs n x d h e = e ∙ getD-default xs (length xs - 1 - n) x d (omega arith) ∙ sym (getD-reverse xs n d h)
 
+  -- Past all of the row stands nothing.
   pub past-the-end : (xs : List A) (n : ℕ) (d : A) → length xs ≤ n → d ≡ getD (reverse xs) n d
   past-the-end xs n d h = sym (getD-past (reverse xs) n d (rw length-reverse h))
 
+  -- What is added last comes first.
   pub push-on-top : (xs ys : List A) (y : A) → ys ≡ xs ++ y ∷ [] → reverse ys ≡ y ∷ reverse xs
   push-on-top xs ys y e = ap reverse e ∙ reverse-append xs (y ∷ [])
 
@@ -56,22 +58,6 @@ pub within : (row : List Node) (p : ℕ) (t : Term) (rest : List Node) → drop 
 within row p t rest e =
     omega (arith, sym (length-drop p row) ∙ ap length e ∙ listing-length t rest refl, code-size-bounded t)
 
--- The record of a label says the label.
-pub label-read : (l : Label) → labelOf (record-of l) ≡ Some l
-label-read (Num c) = refl
-label-read (Truth false) = refl
-label-read (Truth true) = refl
-label-read (Var x i) = refl
-label-read (Binop Add) = refl
-label-read (Binop Sub) = refl
-label-read (Binop Mul) = refl
-label-read (Binop Div) = refl
-label-read Eq = refl
-label-read App = refl
-label-read (Lam x) = refl
-label-read (Let x) = refl
-label-read If = refl
-
 -- Where the records behind a record are measured, the record is.
 module _ (n : Node) (row : List Node) (xs : List Extent) (long : length row < most-records) (behind : Measured row xs) where
   -- The child that begins behind a records adds its own.
@@ -94,11 +80,13 @@ module _ (n : Node) (row : List Node) (xs : List Extent) (long : length row < mo
 
   -- The record says its label.
   by-label : (l : Label) {ns : List Node} → n ∷ row ≡ record-of l ∷ ns → measure-of xs (labelOf n) ≡ whole xs l
-  by-label l e = let h : n ≡ record-of l = cc in ap (λ z. measure-of xs (labelOf z)) h ∙ ap (measure-of xs) (label-read l)
+  by-label l e = let h : n ≡ record-of l = cc in ap (λ z. measure-of xs (labelOf z)) h ∙ ap (measure-of xs) (label-of-record l)
 
+  -- What stands behind the first record.
   behind-first : {m : Node} {ns : List Node} → n ∷ row ≡ m ∷ ns → row ≡ ns
   behind-first e = cc
 
+  -- The term that begins with the record is measured.
   first-measured : (t : Term) (rest : List Node) → n ∷ row ≡ listing-before t rest → measure-of xs (labelOf n) ≡ extent (size t) (code-size t)
   first-measured (num c) rest e = by-label (Num c) e
   first-measured (truth b) rest e = by-label (Truth b) e
@@ -113,6 +101,7 @@ module _ (n : Node) (row : List Node) (xs : List Extent) (long : length row < mo
       ∙ next-child (size c + size t) _ _ _ f rest (omega (arith, code-size-bounded c, code-size-bounded t))
       (further (size c) (size t) row (ap (drop (size c)) (behind-first e) ∙ past-listing c _) (past-listing t _)) (omega arith) (omega arith)
 
+  -- So is every term of the longer row.
   pub measured-more : Measured (n ∷ row) (measure-of xs (labelOf n) ∷ xs)
   measured-more zero t rest e = first-measured t rest e
   measured-more (suc p) t rest e = behind p t rest e
