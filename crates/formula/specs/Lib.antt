@@ -4,3 +4,4 @@ pub mod Instruction
 pub mod Check
 pub mod Scopes
 pub mod Translate
+pub mod Load

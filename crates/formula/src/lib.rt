@@ -2,6 +2,7 @@
 pub mod check;
 pub mod instruction;
 pub mod label;
+pub mod load;
 pub mod refusal;
 pub mod scope;
 pub mod translate;

@@ -20,6 +20,7 @@ term-new t ns = rw (eq-eqb (length ns) (length ns) refl) refl
 pub term-old : (t : Tree) (ns : List Tree) (i : ℕ) → i < length ns → term (t ∷ ns) i ≡ term ns i
 term-old t ns i h = rw (ne-eqb i (length ns) (omega arith)) refl
 
+-- So do several.
 pub terms-old : (t : Tree) (ns : List Tree) (s : List ℕ) → AllBelow (length ns) s → map (term (t ∷ ns)) s ≡ map (term ns) s
 terms-old t ns [] h = refl
 terms-old t ns (x ∷ s) h = ap₂ _∷_ (term-old t ns x (h .0)) (terms-old t ns s (h .1))
@@ -29,6 +30,7 @@ pub all-below-more : (n : ℕ) (s : List ℕ) → AllBelow n s → AllBelow (suc
 all-below-more n [] h = tt
 all-below-more n (x ∷ s) h = (omega (arith, h .0), all-below-more n s (h .1))
 
+-- Children that are older stay so.
 below-more : (n : ℕ) (t : Tree) → Below n t → Below (suc n) t
 below-more n (Num c) h = tt
 below-more n (Truth b) h = tt

@@ -34,9 +34,11 @@ module _ {A : Type 0} where
   pub nth-none : (xs : List A) (n : ℕ) → length xs ≤ n → nth (reverse xs) n ≡ None
   nth-none xs n h = nth-past (reverse xs) n (rw length-reverse h)
 
+  -- An empty list is empty from its end.
   pub none-left : (xs : List A) → length xs ≡ 0 → reverse xs ≡ []
   none-left [] h = refl
   none-left (x ∷ xs) h = absurd (omega arith)
 
+-- Workspaces of equal parts are equal.
 pub same-workspace : {a a′ : List Tree} {b b′ : List ℕ} {c c′ : List Mark} {n n′ : ℕ} → a ≡ a′ → b ≡ b′ → c ≡ c′ → n ≡ n′ → workspace a b c n ≡ workspace a′ b′ c′ n′
 same-workspace p q r s = λ i. workspace (p i) (q i) (r i) (s i)

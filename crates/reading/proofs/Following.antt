@@ -30,7 +30,7 @@ mark-of f (M.Lambda x) = S.in-lambda x
 mark-of f M.Thunk = S.in-thunk
 mark-of f (M.Let x a) = S.in-let x (f a)
 
--- The nodes that marks hold are below n.
+-- The node that a mark holds is below n; and so for several.
 abbrev pub MarkBelow : ℕ → Mark → Type 0
 MarkBelow n (M.Lambda x) = Unit {0}
 MarkBelow n M.Thunk = Unit {0}
@@ -40,6 +40,7 @@ abbrev pub MarksBelow : ℕ → List Mark → Type 0
 MarksBelow n [] = Unit {0}
 MarksBelow n (m ∷ ms) = MarkBelow n m × MarksBelow n ms
 
+-- The marks and the terms that a workspace stands for.
 abbrev pub marks-of : Workspace → List S.Mark
 marks-of w = map (mark-of (term (w .nodes))) (w .marks)
 
@@ -57,6 +58,7 @@ pub record Sound (k : ℕ) (w : Workspace) : Type 0 where
 abbrev pub tries : List Instruction → ℕ → Workspace → Option Term
 tries c k w = attempt c k (marks-of w) (terms-of w)
 
+-- What marks stand for does not change as the arena grows, and their nodes stay older.
 mark-old : (t : Tree) (ns : List Tree) (m : Mark) → MarkBelow (length ns) m → mark-of (term (t ∷ ns)) m ≡ mark-of (term ns) m
 mark-old t ns (M.Lambda x) h = refl
 mark-old t ns M.Thunk h = refl
@@ -91,7 +93,7 @@ put-follows k t ns s ms h low ok =
       λ c. ap₂ (attempt c k) older (ap₂ _∷_ (sym (term-new t ns)) (sym (terms-old t ns s (ok .stack)))),
     )
 
--- Other nodes on the stack, and another mark, keep a workspace sound.
+-- Other nodes of the arena on the stack keep a workspace sound.
 on-stack : {k : ℕ} {ns : List Tree} {s s′ : List ℕ} {ms : List Mark} {h : ℕ} → Sound k (workspace ns s ms h) → AllBelow (length ns) s′ → Sound k (workspace ns s′ ms h)
 on-stack ok low = record { falls = ok .falls; stack = low; marks = ok .marks; scope = ok .scope }
 
@@ -121,6 +123,7 @@ access-follows k x i ns s ms h false e ok =
     let w = workspace ns s ms h in
     λ c. ap (λ b. cond b (attempt c k (marks-of w) (var x i ∷ terms-of w)) None) (ap (ltb i) (sym (ok .scope)) ∙ e)
 
+-- An instruction over an arena does what it does over terms.
 pub step-follows : (k : ℕ) (i : Instruction) (ns : List Tree) (s : List ℕ) (ms : List Mark) (h : ℕ) → Sound k (workspace ns s ms h) →
     Follows k i (workspace ns s ms h) (is-end i) (performed i (workspace ns s ms h))
 step-follows k End ns s ms h ok = (refl, λ c. refl)

@@ -14,6 +14,7 @@ use Rattle.semantics.specs.ReadingBack.{decode}
 use Rattle.semantics.proofs.ReadingBack.{bit-again, op-again}
 use Rattle.reading.specs.Reading.{on-one, on-two, on-three, on-let, on-body, attempt, ReadsFromLayout}
 
+-- The code's layout reads as the code, from any stack and whatever is open.
 from-layout : (c : List Instruction) (k : ℕ) (ms : List Mark) (s : List Term) → attempt (map decode (map encode c)) k ms s ≡ attempt c k ms s
 from-layout [] k ms s = refl
 from-layout (End ∷ []) k ms s = refl

@@ -61,22 +61,25 @@ reads-on k [] last w ok = at-last k last w (is-end last) (performed last w) (ste
 reads-on k (i ∷ c) last w ok =
     one-more k i c last w (is-end i) (performed i w) (step-follows k i (w .nodes) (w .stack) (w .marks) (w .scope) ok) (λ w′ ok′. reads-on k c last w′ ok′)
 
--- A sound workspace stays sound.
+-- The workspace that is there, if any, is sound.
 abbrev SoundIfAny : ℕ → Option Workspace → Type 0
 SoundIfAny k None = Unit {0}
 SoundIfAny k (Some w) = Sound k w
 
+-- What follows an instruction keeps it so.
 then-sound : (k : ℕ) (i : Instruction) (w : Workspace) (b : Bool) (o : Option Workspace) (go : Workspace → Option Workspace) → Follows k i w b o →
     ((w′ : Workspace) → Sound k w′ → SoundIfAny k (go w′)) → SoundIfAny k (after o go)
 then-sound k i w true o go f then = rw (f .0) tt
 then-sound k i w false None go f then = tt
 then-sound k i w false (Some w′) go f then = then w′ (f .0)
 
+-- A sound workspace stays sound.
 stays-sound : (k : ℕ) (c : List Instruction) (w : Workspace) → Sound k w → SoundIfAny k (run c w)
 stays-sound k [] w ok = ok
 stays-sound k (i ∷ c) w ok =
     then-sound k i w (is-end i) (performed i w) (λ w′. run c w′) (step-follows k i (w .nodes) (w .stack) (w .marks) (w .scope) ok) (λ w′ ok′. stays-sound k c w′ ok′)
 
+-- A blank workspace is sound.
 blank-sound : (k : ℕ) → Sound k (blank k)
 blank-sound k = record { falls = tt; stack = tt; marks = tt; scope = refl }
 
@@ -88,6 +91,7 @@ sound-root k true ns (r ∷ []) (m ∷ ms) h ok = tt
 sound-root k true ns (r ∷ l ∷ s) ms h ok = tt
 sound-root k false ns s ms h ok = tt
 
+-- The root of what was read from a blank one is in its arena.
 pub root-in-arena : (k : ℕ) (front : List Instruction) (last : Instruction) (w : Workspace) → run front (blank k) ≡ Some w → InArena (w .nodes) (root last w)
 root-in-arena k front last w e = sound-root k (is-end last) (w .nodes) (w .stack) (w .marks) (w .scope) (subst (SoundIfAny k) e (stays-sound k front (blank k) (blank-sound k)))
 

@@ -59,6 +59,7 @@ under-test : (b : Bool) (o : Option Term) (t : Term) → cond b o None ≡ Some 
 under-test true o t e = (refl, e)
 under-test false o t e = clash cc
 
+-- What a code reads as, from any stack and whatever is open, is what it shows as.
 shown : (c : List Instruction) (k : ℕ) (ms : List Mark) (s : List Term) (t : Term) → attempt c k ms s ≡ Some t → read c k [] ms s ≡ t
 shown [] k ms s t e = clash cc
 shown (End ∷ c) k ms s t e = finished-on-top c ms s t e

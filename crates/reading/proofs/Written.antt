@@ -53,6 +53,7 @@ listing-longer (lam x b) ns = omega (arith, listing-longer b ns)
 listing-longer (let-in x a b) ns = omega (arith, listing-longer a (listing-before b ns), listing-longer b ns)
 listing-longer (if-then q t e) ns = omega (arith, listing-longer q (listing-before t (listing-before e ns)), listing-longer t (listing-before e ns), listing-longer e ns)
 
+-- Several have at least as many as they are.
 listings-longer : (f : ℕ → Term) (s : List ℕ) → length s ≤ length (listings f s)
 listings-longer f [] = omega arith
 listings-longer f (i ∷ s) = omega (arith, listings-longer f s, listing-longer (f i) (listings f s))

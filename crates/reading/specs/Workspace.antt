@@ -1,4 +1,4 @@
--- Reading over an arena: one instruction, and a whole code.
+-- Reading over an arena: one instruction after the other, and the root that is left.
 use mathlib.Core.Bool.{Bool, true, false, cond}
 use mathlib.Core.List.{List, [], _∷_, reverse}
 use Prim.Native.Nat.{ℕ, _+_, _-_}
@@ -24,6 +24,7 @@ pub record Workspace : Type 0 where
   pub marks : List Mark
   pub scope : ℕ
 
+-- A workspace of its parts.
 abbrev pub workspace : List Tree → List ℕ → List Mark → ℕ → Workspace
 workspace ns s ms h = record { nodes = ns; stack = s; marks = ms; scope = h }
 
@@ -31,6 +32,7 @@ workspace ns s ms h = record { nodes = ns; stack = s; marks = ms; scope = h }
 abbrev pub workspace-of : Reader → Workspace
 workspace-of r = workspace (reverse (vec-items (r .nodes))) (reverse (vec-items (r .stack))) (reverse (vec-items (r .marks))) (r .scope)
 
+-- Nothing read yet, and k inputs in scope.
 abbrev pub blank : ℕ → Workspace
 blank k = workspace [] [] [] k
 
@@ -46,7 +48,7 @@ opened pops m h w = workspace (w .nodes) (drop pops (w .stack)) (m ∷ w .marks)
 abbrev pub closed : ℕ → Workspace → Workspace
 closed h w = workspace (w .nodes) (w .stack) (drop 1 (w .marks)) h
 
--- A node of the one, two or three on top: None where there are too few.
+-- A node of the two or three on top, the topmost first: None where there are too few.
 abbrev pub of-two : (ℕ → ℕ → Tree) → Option ℕ → Option ℕ → Workspace → Option Workspace
 of-two f None b w = None
 of-two f (Some r) None w = None
@@ -58,10 +60,12 @@ of-three (Some q) None c w = None
 of-three (Some q) (Some e) None w = None
 of-three (Some q) (Some e) (Some t) w = Some (put 3 (T.If q t e) w)
 
+-- LET takes what it binds off and opens its body.
 abbrev pub let-opened : ℕ → Option ℕ → Workspace → Option Workspace
 let-opened x None w = None
 let-opened x (Some a) w = Some (opened 1 (M.Let x a) (w .scope + 1) w)
 
+-- ENDLET makes a node of the Let that is open and of the body on top.
 abbrev pub let-closed : Option ℕ → Option Mark → Workspace → Option Workspace
 let-closed None m w = None
 let-closed (Some b) None w = None
@@ -69,6 +73,7 @@ let-closed (Some b) (Some (M.Lambda x)) w = None
 let-closed (Some b) (Some M.Thunk) w = None
 let-closed (Some b) (Some (M.Let x a)) w = Some (put 1 (T.Let x a b) (closed (w .scope - 1) w))
 
+-- RETURN closes a body: a Lambda's becomes its node, a thunk's stays as it is.
 abbrev pub body-closed : Option ℕ → Option Mark → Workspace → Option Workspace
 body-closed None m w = None
 body-closed (Some b) None w = None
@@ -92,9 +97,11 @@ perform (Apply p) a b c m w = of-two T.App a b w
 perform Return a b c m w = body-closed a m w
 perform (Choose p) a b c m w = of-three a b c w
 
+-- One instruction.
 abbrev pub performed : Instruction → Workspace → Option Workspace
 performed i w = perform i (nth (w .stack) 0) (nth (w .stack) 1) (nth (w .stack) 2) (nth (w .marks) 0) w
 
+-- Go on with what is there.
 abbrev pub after : {A B : Type 0} → Option A → (A → Option B) → Option B
 after None f = None
 after (Some x) f = f x
@@ -109,6 +116,7 @@ abbrev pub answered : Bool → Workspace → Option Workspace
 answered true w = Some w
 answered false w = None
 
+-- Whether an instruction is END.
 abbrev pub is-end : Instruction → Bool
 is-end End = true
 is-end (PushNum n) = false

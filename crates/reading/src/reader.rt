@@ -58,7 +58,7 @@ pub enum Mark {
 }
 
 /// Why code is not given back as a listing.
-#[derive(Clone, Copy, PartialEq, Eq)]
+#[derive(Clone, Copy)]
 pub enum Unread {
     /// There is no room for the listing.
     NoRoom,

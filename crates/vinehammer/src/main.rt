@@ -1,5 +1,7 @@
 //! Vinehammer: works out an accrued coupon over both number domains, and shows a fault.
 mod accrual;
+mod formulas;
+mod leg_and_stub;
 mod text;
 
 use accrual::Accrued;
@@ -14,6 +16,7 @@ use domain::Domain;
 use domain::Fault;
 use domain::screen::Screen;
 use domain::screen::ScreenDomain;
+use formulas::print_formula;
 use std::io;
 use text::Cents;
 use text::CentsDisplay;
@@ -112,5 +115,6 @@ fn main(rt: LibcRuntime) -> io::Result<()> {
         print_rate(&rt, &rates)?;
     }
     println!(rt, "the same with a year of no days:")?;
-    print_whole(&rt, &Coupon { basis: 0, ..coupon })
+    print_whole(&rt, &Coupon { basis: 0, ..coupon })?;
+    print_formula(&rt)
 }
