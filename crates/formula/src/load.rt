@@ -8,8 +8,11 @@ use semantics::layout::MOST_INSTRUCTIONS;
 use semantics::layout::Node;
 use std::alloc::AllocError;
 use std::alloc::Global;
+ghost use mathlib.Core.List.{[]};
+ghost use mathlib.Core.Path.{_≡_};
 ghost use Prim.Native.Nat.{_≤_};
 ghost use Rattle.std.specs.Of.Vec.{vec-cap, vec-items};
+ghost use Rattle.std.specs.Vec.{made};
 ghost use Rattle.semantics.specs.Sizes.{most-instructions};
 ghost use Rattle.formula.specs.Load.{Loaded};
 
@@ -22,7 +25,9 @@ pub struct Code {
 
 impl Code {
     /// No code, with its room reserved.
-    pub fn new(heap: Global) -> Result<Code, AllocError> {
+    pub fn new(heap: Global) -> Result<Code, AllocError>
+        ensures { λ r. ⌜ made r (λ c. vec-items (c .items) ≡ []) ⌝ }
+    {
         let items = Vec::with_capacity(heap, MOST_INSTRUCTIONS)?;
         Ok(Code { items })
     }
