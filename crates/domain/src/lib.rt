@@ -1,5 +1,7 @@
 //! Number domains: what a 64-bit code means, what an operation on two codes answers, and layers
 //! that stand over any domain.
+#![tactic(auto)]
+
 pub mod laws;
 pub mod pile;
 pub mod screen;

@@ -1,4 +1,5 @@
 //! Formulas in code: what records and instructions say, the checks of a listing, and its translation.
+#![tactic(auto)]
 pub mod check;
 pub mod instruction;
 pub mod label;

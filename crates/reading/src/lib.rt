@@ -1,4 +1,5 @@
 //! Reading code back: forward over a stack, into an arena, and out as a listing.
+#![tactic(auto)]
 pub mod reader;
 pub mod write;
 
