@@ -1,6 +1,6 @@
 -- Which bit patterns of binary64 are finite numbers, and that these are read and written back unchanged.
 use Rattle.std.proofs.Common.{◌≡◌, ℕ, zero, suc, ◌+◌, ◌/◌, ◌%◌, ◌^◌, ◌<◌, Bool, true, false, cond, not, T, eqb, ltb, leb, sym, refl, ◌∙◌, subst, arith}
-use lib.Ieee.{Float, nan, inf, fin, binary64, odd, of_fields, of_bits, to_bits, is_nan, nan_bits}
+use lib.Ieee.{Float, nan, inf, fin, binary64, odd, of_fields, of_bits, is_nan, nan_bits}
 use lib.Ieee.Bits.{nan_bits_is, to_bits-of_bits}
 use Rattle.std.proofs.lemmas.Bool.{and_parts, and_from, ltb-true, lt-ltb}
 use Rattle.std.proofs.lemmas.Bool.Decides.{nat_tests}

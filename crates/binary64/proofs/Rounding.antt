@@ -1,5 +1,5 @@
 -- Results of Binary64 are rounded once.
-use Rattle.std.proofs.Common.{◌≡◌, ℕ, Bool, true, false, T, Ok, sym, refl, ap, ◌∙◌, arith}
+use Rattle.std.proofs.Common.{◌≡◌, ℕ, Bool, true, false, T, Ok, sym, ap, ◌∙◌, arith}
 use lib.Ieee.{Float, binary64, fits}
 use lib.Ieee.Bits.{of_bits-to_bits}
 use Rattle.std.specs.Float.{float_is_finite}

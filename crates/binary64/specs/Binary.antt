@@ -1,5 +1,5 @@
 -- Binary64: the finite numbers of IEEE 754's binary64, each operation rounded once.
-use Rattle.std.specs.Prelude.{ℕ, eqb}
+use Rattle.std.specs.Prelude.{eqb}
 use Rattle.std.proofs.Common.{arith}
 use Rattle.domain.specs.Meaning.{Meaning, bottom_height}
 use Rattle.binary64.specs.Rates.{number_of, is_lawful, answer}

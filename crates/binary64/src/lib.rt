@@ -1,5 +1,6 @@
 //! Binary64: the number domain of rates, each operation rounded once.
 #![tactic(auto)]
+
 pub mod laws;
 
 ghost use Rattle.std.specs.Prelude.{◌≡◌, true, IfSome, if◌then◌else◌, Some, None};

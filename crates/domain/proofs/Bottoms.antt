@@ -1,5 +1,5 @@
 -- What a bottom domain answers is in order, and is no fault with Screen's cause.
-use Rattle.std.proofs.Common.{◌≡◌, ℕ, Bool, true, false, Ok, Err, refl, arith}
+use Rattle.std.proofs.Common.{◌≡◌, ℕ, Bool, true, false, Err, refl, arith}
 use Rattle.domain.specs.declared.Fault.{Fault}
 use Rattle.domain.specs.declared.Cause.TheVariants.{UnlawfulOperand}
 use Rattle.domain.specs.Meaning.{InOrder, cause_number}

@@ -1,5 +1,5 @@
 -- Screen: a layer over any domain that looks at both operands of every operation.
-use Rattle.std.specs.Prelude.{◌≡◌, ℕ, Bool, true, cond, ◌&&◌, Ok, Err}
+use Rattle.std.specs.Prelude.{ℕ, cond, ◌&&◌, Err}
 use Rattle.std.proofs.Common.{arith}
 use Rattle.domain.specs.declared.Op.{Op}
 use Rattle.domain.specs.declared.Cause.TheVariants.{UnlawfulOperand}

@@ -1,6 +1,6 @@
 -- Why Whole is a meaning: a lawful code has 64 bits, and its answers are in order. The definition of `whole` carries these proofs.
 use Rattle.std.specs.Prelude.{◌≡◌, ℕ, ◌^◌, ◌<◌, ◌≤◌, true, ℤ, pos, negsuc, nat_lt}
-use Rattle.std.proofs.Common.{ap, ◌∙◌, arith, SFits}
+use Rattle.std.proofs.Common.{ap, ◌∙◌, arith}
 use Rattle.std.specs.Int.Signed.{mag}
 use Rattle.std.specs.Int.{w64}
 use Rattle.std.proofs.lemmas.Int.{to_z-of_z}

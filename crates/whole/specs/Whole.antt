@@ -1,5 +1,5 @@
 -- Whole: whole numbers from -10^15 to 10^15, with exact results.
-use Rattle.std.specs.Prelude.{ℕ, eqb}
+use Rattle.std.specs.Prelude.{eqb}
 use Rattle.std.proofs.Common.{arith}
 use Rattle.domain.specs.Meaning.{Meaning, bottom_height}
 use Rattle.whole.specs.Numbers.{number_of, is_lawful, answer}

@@ -1,5 +1,6 @@
 //! Whole: the number domain of whole amounts, exact in a range.
 #![tactic(auto)]
+
 pub mod laws;
 
 ghost use Rattle.std.specs.Prelude.{◌≡◌, ◌*ℤ◌, if◌then◌else◌, Some, None, int_div};

@@ -11,5 +11,5 @@ returns c =
     let x128 : SFits w128 c.args.x = record { sfits = omega arith } in
     let y128 : SFits w128 c.args.y = record { sfits = omega arith } in
     let wide : SFits w128 (c.args.x *ℤ c.args.y) = search rules in
-    let near : SFits w64 c.saturate.result = record { sfits = c.saturate.type-inv } in
+    let near : SFits w64 c.saturate.result = record { sfits = c.saturate.type_inv } in
     to_z-of_z w64 c.saturate.result near ∙ (simp to_z-of_z at c.saturate.ensures)
