@@ -1,5 +1,6 @@
 //! Formulas in code: what records and instructions say, the checks of a listing, and its translation.
 #![tactic(auto)]
+
 pub mod check;
 pub mod instruction;
 pub mod label;

@@ -1,5 +1,6 @@
 //! Reading code back: forward over a stack, into an arena, and out as a listing.
 #![tactic(auto)]
+
 pub mod reader;
 pub mod write;
 
