@@ -1,5 +1,5 @@
 -- The table of records is read back by labels, and only that.
-use Rattle.std.proofs.Common.{◌≡◌, ℕ, zero, suc, Bool, true, false, cond, Some, None, Option, sym, refl, ap, ◌∙◌}
+use Rattle.std.proofs.Common.{◌≡◌, ℕ, zero, suc, true, false, Some, refl, ap, ◌∙◌}
 use Rattle.domain.specs.declared.Op.TheVariants.{Add, Sub, Mul, Div}
 use Rattle.semantics.specs.declared.layout.Label.{Label}
 use Rattle.semantics.specs.declared.layout.Label.TheVariants.{Num, Truth, Var, Binop, Eq, App, Lam, Let, If}

@@ -1,14 +1,12 @@
 -- The table of instructions is read back from the caller's layout, and only that.
-use Rattle.std.proofs.Common.{◌≡◌, ℕ, zero, suc, Bool, true, false, cond, ◌&&◌, eqb, leb, Some, None, Option, refl, ap, ◌∙◌, subst, arith}
+use Rattle.std.proofs.Common.{◌≡◌, ℕ, zero, suc, true, false, cond, ◌&&◌, leb, Some, None, refl, ap, subst}
 use Rattle.std.proofs.lemmas.Bool.{and_parts, and_from, leb-true, le-leb}
 use Rattle.domain.specs.declared.Op.TheVariants.{Add, Sub, Mul, Div}
-use Rattle.semantics.specs.declared.layout.Instr.{Instr}
 use Rattle.semantics.specs.declared.layout.Instruction.{Instruction}
 use Rattle.semantics.specs.declared.layout.Instruction.TheVariants.{End, PushNum, PushTruth, Access, PushClosure, PushThunk, Operate, Compare, Bind, Unbind, Apply, Return, Choose}
 use Rattle.semantics.specs.Instructions.{kind_end, kind_push_num, kind_push_truth, kind_access, kind_closure, kind_thunk, kind_operate, kind_compare, kind_bind, kind_unbind, kind_apply, kind_return, kind_choose, encode}
 use Rattle.semantics.specs.Sizes.{most_instructions, least_length, BoundedLength, BoundedInstruction}
-use Rattle.formula.specs.Label.{where_zero}
-use Rattle.formula.specs.Instruction.{truth_instruction, access_instruction, with_length, op_instruction, instruction_at, instruction_of, unplaced, InstructionsAreTheTable}
+use Rattle.formula.specs.Instruction.{access_instruction, with_length, instruction_at, instruction_of, unplaced, InstructionsAreTheTable}
 use Rattle.formula.proofs.Found.{tested, chosen, none_found, zero_found}
 
 -- A bounded length passes its test.

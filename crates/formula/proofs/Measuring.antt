@@ -1,8 +1,7 @@
 -- Measuring from the last record to the first measures every term.
-use Rattle.std.proofs.Common.{◌≡◌, ℕ, zero, suc, ◌+◌, ◌-◌, ◌*◌, ◌<◌, ◌≤◌, min, true, false, List, [], ◌∷◌, ◌++◌, reverse, length, get_or, drop, Some, sym, refl, ap, ◌∙◌, arith}
+use Rattle.std.proofs.Common.{◌≡◌, ℕ, zero, suc, ◌+◌, ◌-◌, ◌*◌, ◌<◌, ◌≤◌, min, List, [], ◌∷◌, ◌++◌, reverse, length, get_or, drop, sym, refl, ap, ◌∙◌, arith}
 use native.Mathlib.Nat.{min-eq_left}
 use Rattle.std.proofs.lemmas.List.{reverse-append, length-reverse, length-drop, get_or-reverse, get_or_default, get_or_past, drop-drop, drop_more}
-use Rattle.domain.specs.declared.Op.TheVariants.{Add, Sub, Mul, Div}
 use Rattle.semantics.specs.declared.layout.Node.{Node}
 use Rattle.semantics.specs.declared.layout.Label.{Label}
 use Rattle.semantics.specs.declared.layout.Label.TheVariants.{Num, Truth, Var, Binop, Eq, App, Lam, Let, If}

@@ -1,6 +1,5 @@
 -- What an instruction of the caller's layout says: the table of instructions, read from the instruction.
-use Rattle.std.specs.Prelude.{◌≡◌, ℕ, zero, suc, Bool, true, false, cond, ◌&&◌, Some, None, Option, ◌==◌, nat_le}
-use Rattle.domain.specs.declared.Op.{Op}
+use Rattle.std.specs.Prelude.{◌≡◌, ℕ, zero, suc, true, false, cond, ◌&&◌, Some, None, Option, ◌==◌, nat_le}
 use Rattle.domain.specs.declared.Op.TheVariants.{Add, Sub, Mul, Div}
 use Rattle.semantics.specs.declared.layout.Instr.{Instr}
 use Rattle.semantics.specs.declared.layout.Instruction.{Instruction}

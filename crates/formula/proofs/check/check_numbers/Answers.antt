@@ -4,15 +4,15 @@ use Rattle.formula.specs.Check.{lawful_number}
 use Rattle.formula.proofs.Turns.{passes-here, fails-here, passes_to_end}
 use Rattle.formula.proofs.check.check_numbers.Goals as goal
 
-pub returns-then-not-is-lawful-number : goal.returns-then-not-is-lawful-number
-returns-then-not-is-lawful-number g c =
+pub returns-then-not-is_lawful_number : goal.returns-then-not-is_lawful_number
+returns-then-not-is_lawful_number g c =
     fails-here (lawful_number (g.D.Domain.meaning c.args.domain.now)) Unlawful c.args.listing.now c.loop-place.place
-    c.loop-place-test.true (sym c.if-not-is-lawful-number.ensures) c.loop-place.invariant
+    c.loop-place-test.true (sym c.if-not-is_lawful_number.ensures) c.loop-place.invariant
 
 pub loop-place-preserved : goal.loop-place-preserved
 loop-place-preserved g c =
     passes-here (lawful_number (g.D.Domain.meaning c.args.domain.now)) Unlawful c.args.listing.now c.loop-place.place
-    c.loop-place-test.true (sym c.if-not-is-lawful-number.ensures) c.loop-place.invariant
+    c.loop-place-test.true (sym c.if-not-is_lawful_number.ensures) c.loop-place.invariant
 
 pub returns : goal.returns
 returns g c =

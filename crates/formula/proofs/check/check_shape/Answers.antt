@@ -7,8 +7,8 @@ returns-then-owed-eq0 c = over-here c.args.listing.now c.loop-place.place c.loop
 
 pub loop-place-preserved : goal.loop-place-preserved
 loop-place-preserved c = (
-  counts-here c.args.listing.now c.loop-place.place c.loop-place.owed c.owed-after-owed.result c.loop-place-test.true c.if-owed-eq0.false c.owed-after-owed.ensures.owed c.loop-place.invariant.0,
-  omega (arith, c.owed-after-owed.ensures.most, c.loop-place.invariant.1, c.if-owed-eq0.false),
+  counts-here c.args.listing.now c.loop-place.place c.loop-place.owed c.owed_after-owed.result c.loop-place-test.true c.if-owed-eq0.false c.owed_after-owed.ensures.owed c.loop-place.invariant.0,
+  omega (arith, c.owed_after-owed.ensures.most, c.loop-place.invariant.1, c.if-owed-eq0.false),
 )
 
 pub returns-then-owed-gt0 : goal.returns-then-owed-gt0

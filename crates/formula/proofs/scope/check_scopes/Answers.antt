@@ -11,16 +11,16 @@ returns-then-not-enter c = record {
   capacities = search rules;
 }
 
-pub returns-in-default : goal.returns-in-default
-returns-in-default c = record {
-  scoped = out_of_scope_here c.args.names.now c.args.listing.now c.loop-place.place (vec_items c.loop-place.path) (reverse (vec_items c.loop-place.owed)) None c.loop-place-test.true c.if-not-enter.ensures.scopes c.in-default.ensures refl c.loop-place.invariant.0;
+pub returns-in_default : goal.returns-in_default
+returns-in_default c = record {
+  scoped = out_of_scope_here c.args.names.now c.args.listing.now c.loop-place.place (vec_items c.loop-place.path) (reverse (vec_items c.loop-place.owed)) None c.loop-place-test.true c.if-not-enter.ensures.scopes c.in_default.ensures refl c.loop-place.invariant.0;
   capacities = search rules;
 }
 
-pub returns-then-not-is-in-scope : goal.returns-then-not-is-in-scope
-returns-then-not-is-in-scope c =
+pub returns-then-not-is_in_scope : goal.returns-then-not-is_in_scope
+returns-then-not-is_in_scope c =
     let found = c.in-Some.found in
-    let fails = c.if-not-is-in-scope.ensures ∙ ap (λ p. label_in_scope found (scope_at c.args.names.now p (length p))) c.deref.ensures.value in
+    let fails = c.if-not-is_in_scope.ensures ∙ ap (λ p. label_in_scope found (scope_at c.args.names.now p (length p))) c.deref.ensures.value in
     record {
       scoped = out_of_scope_here c.args.names.now c.args.listing.now c.loop-place.place (vec_items c.loop-place.path) (reverse (vec_items c.loop-place.owed)) (Some found) c.loop-place-test.true c.if-not-enter.ensures.scopes c.in-Some.ensures fails c.loop-place.invariant.0;
       capacities = search rules;
@@ -32,13 +32,13 @@ loop-place-preserved c =
     let owed = reverse (vec_items c.enter.new.owed) in
     let found = c.in-Some.found in
     let entering = c.if-not-enter.ensures.scopes in
-    let fits = c.if-not-is-in-scope.ensures ∙ ap (λ p. label_in_scope found (scope_at c.args.names.now p (length p))) c.deref.ensures.value in
+    let fits = c.if-not-is_in_scope.ensures ∙ ap (λ p. label_in_scope found (scope_at c.args.names.now p (length p))) c.deref.ensures.value in
     let deep : c.len.result ≡ length path = c.len.ensures ∙ c.enter.new.path.ok.0 in
-    let items = c.owe-children.ensures.items in (
+    let items = c.owe_children.ensures.items in (
       in_scope-here c.args.names.now c.args.listing.now c.loop-place.place (vec_items c.loop-place.path) (reverse (vec_items c.loop-place.owed)) found c.len.result c.loop-place-test.true entering c.in-Some.ensures fits items deep c.loop-place.invariant.0,
       subst (Falling (length path)) (sym (items ∙ ap (λ n. owed_below found n owed) deep)) (children_fall found (length path) owed entering.falling),
-      (omega (arith, c.enter.ensures.lens.1, c.loop-place.invariant.2.0), omega (arith, c.owe-children.ensures.len, c.enter.ensures.lens.0, c.loop-place.invariant.2.1)),
-      (c.owe-children.ensures.capacity ∙ c.enter.ensures.capacities.0 ∙ c.loop-place.invariant.3.0, c.enter.ensures.capacities.1 ∙ c.loop-place.invariant.3.1),
+      (omega (arith, c.enter.ensures.lens.1, c.loop-place.invariant.2.0), omega (arith, c.owe_children.ensures.len, c.enter.ensures.lens.0, c.loop-place.invariant.2.1)),
+      (c.owe_children.ensures.capacity ∙ c.enter.ensures.capacities.0 ∙ c.loop-place.invariant.3.0, c.enter.ensures.capacities.1 ∙ c.loop-place.invariant.3.1),
     )
 
 pub returns : goal.returns

@@ -7,11 +7,11 @@ use Rattle.formula.proofs.scope.enter.Goals as goal
 pub returns-in-Some-binder : goal.returns-in-Some-binder
 returns-in-Some-binder c =
     let next = c.in-Some.next in
-    let path = c.push-reserved.ensures.items ∙ (λ i. c.truncate.ensures.items i ++ option_to_list (sym c.in-Some-binder.is i)) in
+    let path = c.push_reserved.ensures.items ∙ (λ i. c.truncate.ensures.items i ++ option_to_list (sym c.in-Some-binder.is i)) in
     record {
       scopes = enters_last (vec_items c.args.path.now) _ (vec_items c.pop.new.self) next _ c.in-Some.ensures.items c.requires.falling path;
-      lens = (omega (arith, c.in-Some.ensures.len), omega (arith, c.truncate.ensures.len, c.push-reserved.ensures.len));
-      capacities = (c.in-Some.ensures.capacity, c.push-reserved.ensures.capacity ∙ c.truncate.ensures.capacity);
+      lens = (omega (arith, c.in-Some.ensures.len), omega (arith, c.truncate.ensures.len, c.push_reserved.ensures.len));
+      capacities = (c.in-Some.ensures.capacity, c.push_reserved.ensures.capacity ∙ c.truncate.ensures.capacity);
     }
 
 pub returns-in-None : goal.returns-in-None

@@ -3,7 +3,7 @@ use Rattle.formula.proofs.scope.owe.Goals as goal
 
 pub returns : goal.returns
 returns c = record {
-  items = push_first _ _ _ c.push-reserved.ensures.items;
-  len = c.push-reserved.ensures.len;
-  capacity = c.push-reserved.ensures.capacity;
+  items = push_first _ _ _ c.push_reserved.ensures.items;
+  len = c.push_reserved.ensures.len;
+  capacity = c.push_reserved.ensures.capacity;
 }

@@ -5,12 +5,12 @@ use Rattle.formula.proofs.load.Loader.load.Goals as goal
 -- A listing that passes is not too long.
 pub translate-requires : goal.translate-requires
 translate-requires g c =
-    let passed = check_decides.sound (g.D.Domain.meaning c.args.domain.now) c.args.names.now c.args.listing.now (sym c.in-ok-check.ensures) in
+    let passed = check_decides.sound (g.D.Domain.meaning c.args.domain.now) c.args.names.now c.args.listing.now (sym c.in_ok-check.ensures) in
     record { long = passed.1.few_records; room = c.args.code.now.room }
 
 -- It is that of a term, whose translation the code then is.
 pub returns : goal.returns
 returns g c =
-    let passed = check_decides.sound (g.D.Domain.meaning c.args.domain.now) c.args.names.now c.args.listing.now (sym c.in-ok-check.ensures) in
+    let passed = check_decides.sound (g.D.Domain.meaning c.args.domain.now) c.args.names.now c.args.listing.now (sym c.in_ok-check.ensures) in
     let code = c.translate.ensures.code passed.0 passed.1.is_listing in
     (passed.0, passed.1, code, c.len.ensures ∙ c.translate.new.code.ok.0 ∙ ap length code)

@@ -12,7 +12,7 @@ loop-place-init c =
 pub loop-place-preserved : goal.loop-place-preserved
 loop-place-preserved c =
     let place = c.loop-place.place in
-    (measured_step c.args.listing.now (place - 1) place _ _ _ c.requires (omega arith) (omega arith) c.loop-place.invariant.0 c.measure-one.ensures.items, search rules)
+    (measured_step c.args.listing.now (place - 1) place _ _ _ c.requires (omega arith) (omega arith) c.loop-place.invariant.0 c.measure_one.ensures.items, search rules)
 
 pub returns : goal.returns
 returns c =

@@ -7,5 +7,5 @@ returns c = record {
   capacity = search rules;
   code = λ t e.
       translated c.args.listing.now t e c.requires.long (omega (arith, c.requires.room, c.clear.ensures.capacity)) c.clear.ensures.items c.clear.ensures.len
-      c.emit-at.ensures.code c.put.ensures;
+      c.emit_at.ensures.code c.put.ensures;
 }

@@ -8,6 +8,6 @@ returns c =
     let xs = vec_items me.stack in
     let n : c.args.pops + (c.len.result - c.args.pops) ≡ length xs = omega (arith, me.stack.ok.0) in
     record {
-      reads = same-workspace refl (ap reverse c.truncate.ensures.items ∙ sym (drop-top xs c.args.pops _ n)) (push_top _ _ _ c.push-reserved.ensures.items) refl;
+      reads = same-workspace refl (ap reverse c.truncate.ensures.items ∙ sym (drop-top xs c.args.pops _ n)) (push_top _ _ _ c.push_reserved.ensures.items) refl;
       sizes = search rules;
     }

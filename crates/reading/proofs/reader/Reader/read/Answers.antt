@@ -11,7 +11,7 @@ returns-then-code-eq0 c = record { term = reads_nothing c.args.code.now c.args.i
 
 pub returns-then-not-step : goal.returns-then-not-step
 returns-then-not-step c = record {
-  term = reads_cut c.args.code.now c.split-at.result.0.now c.split-at.result.1.now c.args.inputs None (omega (arith, c.if-code-eq0.false)) c.split-at.ensures.front (c.split-at.ensures.by_index.2 0 _)
+  term = reads_cut c.args.code.now c.split_at.result.0.now c.split_at.result.1.now c.args.inputs None (omega (arith, c.if-code-eq0.false)) c.split_at.ensures.front (c.split_at.ensures.by_index.2 0 _)
       (turn _ c.loop-i.i _ _ _ false _ c.loop-i-test.true c.step.ensures.reads c.if-not-step.true c.loop-i.invariant.0);
   place = tt;
 }
@@ -30,7 +30,7 @@ returns c =
     let w = workspace_of c.loop-i.self in
     let all = last_turn _ c.loop-i.i w _ c.loop-i-test.false c.loop-i.invariant.0 in
     record {
-      term = reads_cut c.args.code.now c.split-at.result.0.now c.split-at.result.1.now c.args.inputs (Some w) (omega (arith, c.if-code-eq0.false)) c.split-at.ensures.front (c.split-at.ensures.by_index.2 0 _) all
+      term = reads_cut c.args.code.now c.split_at.result.0.now c.split_at.result.1.now c.args.inputs (Some w) (omega (arith, c.if-code-eq0.false)) c.split_at.ensures.front (c.split_at.ensures.by_index.2 0 _) all
           ∙ ap (option_map (term w.nodes)) (sym c.root.ensures);
-      place = subst (InArena w.nodes) (sym c.root.ensures) (root_in_arena c.args.inputs c.split-at.result.0.now _ w all);
+      place = subst (InArena w.nodes) (sym c.root.ensures) (root_in_arena c.args.inputs c.split_at.result.0.now _ w all);
     }
