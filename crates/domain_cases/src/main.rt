@@ -1,5 +1,6 @@
 //! Asks the number domains the cases on standard input, and compares their answers with those beside the cases.
 #![tactic(auto)]
+
 mod cases;
 
 use binary64::Binary64;

@@ -1,5 +1,6 @@
 //! Vinehammer: works out an accrued coupon over both number domains, and shows a fault.
 #![tactic(auto)]
+
 mod accrual;
 mod formulas;
 mod leg_and_stub;
