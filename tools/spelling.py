@@ -40,6 +40,11 @@ def own_names(paths):
     return names, fields
 
 
+def other_names(paths):
+    """Each name that a file gives to an import."""
+    return {n for p in paths for n in re.findall(rf" as ({WORD})(?=[,}}])", open(p, encoding="utf-8").read())}
+
+
 def camel_to_snake(word):
     return re.sub(r"(?<=[a-z0-9])([A-Z])", lambda m: "_" + m.group(1).lower(), word)
 
@@ -77,6 +82,7 @@ def main():
     antt = [p for p in glob.glob("crates/**/*.antt", recursive=True) if "/out/" not in p]
     sources = [p for p in glob.glob("crates/**/*.rt", recursive=True) if "/out/" not in p]
     names, fields = own_names(antt)
+    names.update((n, True) for n in other_names(antt + sources) if n not in names)
     definitions = {respelled(n, True, set()) for n, d in names.items() if d and len(n) > 1} | JOINABLE
     taken = library_names(antt + sources)
     table = {}

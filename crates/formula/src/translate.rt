@@ -2,7 +2,7 @@
 //! from the root emits the code.
 ghost use Rattle.std.specs.Prelude.{◌≡◌, ◌+◌, ◌<◌, ◌≤◌, min, ◌∷◌, reverse, length, vec_len, vec_capacity};
 ghost use Rattle.semantics.specs.Terms.{Term};
-ghost use Rattle.semantics.specs.Listing.{listing as listing-of};
+ghost use Rattle.semantics.specs.Listing.{listing as listing_of};
 ghost use Rattle.semantics.specs.Translation.{translate};
 ghost use Rattle.semantics.specs.Sizes.{most_records, most_instructions};
 ghost use Rattle.formula.specs.Label.{label_of};
@@ -259,7 +259,7 @@ impl Translator {
         requires long { length listing.now ≤ most_records }
         requires room { most_instructions ≤ vec_capacity code.old }
         ensures capacity { vec_capacity code.new ≡ vec_capacity code.old }
-        ensures code { (t : Term) → listing-of t ≡ listing.now → code.new.items ≡ translate t }
+        ensures code { (t : Term) → listing_of t ≡ listing.now → code.new.items ≡ translate t }
     {
         self.measure(listing);
         code.clear();
