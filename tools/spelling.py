@@ -105,7 +105,7 @@ def main():
             for old in olds:
                 table.pop(old)
 
-    def turn(text, ticks_only):
+    def turn(text):
         def word(found):
             token = found.group(0)
             core = token.rstrip("'")
@@ -117,13 +117,20 @@ def main():
                     return table[key] + token[len(key):]
             return token
 
-        if not ticks_only:
-            return TOKEN.sub(word, text)
+        return TOKEN.sub(word, text)
+
+    def turn_ticks(text):
+        """Prose has names of ours in ticks alone."""
         return re.sub(r"`[^`\n]*`", lambda m: TOKEN.sub(lambda f: table.get(f.group(0), f.group(0)), m.group(0)), text)
+
+    def turn_line(line, comment):
+        code, mark, prose = line.partition(comment)
+        return turn(code) + mark + turn_ticks(prose)
 
     for path in antt + sources + ["README.md"] + glob.glob("docs/*.md"):
         before = open(path, encoding="utf-8").read()
-        after = turn(before, path.endswith(".md"))
+        comment = {"antt": "--", "rt": "//"}.get(path.rsplit(".", 1)[1])
+        after = "\n".join(turn_line(line, comment) for line in before.split("\n")) if comment else turn_ticks(before)
         if after != before:
             open(path, "w", encoding="utf-8").write(after)
     for old, new in sorted(table.items()):

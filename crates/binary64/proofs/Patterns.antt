@@ -51,8 +51,8 @@ codes_survive_reading n h =
     finite_survives n (ltb-true n (2 ^ 64) p.0) p.1
 
 -- A pattern of 64 bits is lawful where it is below that of infinity, but for its sign.
-below-lawful : (n : ℕ) → n < 2 ^ 64 → n % 0x8000_0000_0000_0000 < 0x7ff0_0000_0000_0000 → is_lawful n ≡ true
-below-lawful n s h = and_from _ _ (lt-ltb _ _ s) (sym (pattern_finite n) ∙ lt-ltb _ _ h)
+below_lawful : (n : ℕ) → n < 2 ^ 64 → n % 0x8000_0000_0000_0000 < 0x7ff0_0000_0000_0000 → is_lawful n ≡ true
+below_lawful n s h = and_from _ _ (lt-ltb _ _ s) (sym (pattern_finite n) ∙ lt-ltb _ _ h)
 
 pub subnormals_are_lawful : (n : ℕ) → n < 2 ^ 52 → (is_lawful n ≡ true) × (is_lawful (2 ^ 63 + n) ≡ true)
-subnormals_are_lawful n h = (below-lawful n (omega arith) (omega arith), below-lawful (2 ^ 63 + n) (omega arith) (omega arith))
+subnormals_are_lawful n h = (below_lawful n (omega arith) (omega arith), below_lawful (2 ^ 63 + n) (omega arith) (omega arith))

@@ -24,10 +24,10 @@ rounded-fits Mul x y = mul-fits binary64 x y
 rounded-fits Div x y = div-fits binary64 x y
 
 -- The code of a finite number of the format is lawful.
-code-lawful : (z : Float) → T (fits binary64 z) → float_is_finite z ≡ true → is_lawful (code_of z) ≡ true
-code-lawful z f h = and_from _ _ (lt-ltb _ _ (to_bits-lt binary64 z f)) (ap float_is_finite (of_bits-to_bits binary64 z f) ∙ h)
+code_lawful : (z : Float) → T (fits binary64 z) → float_is_finite z ≡ true → is_lawful (code_of z) ≡ true
+code_lawful z f h = and_from _ _ (lt-ltb _ _ (to_bits-lt binary64 z f)) (ap float_is_finite (of_bits-to_bits binary64 z f) ∙ h)
 
 pub answer_in_order : (op : Op) (x y : Float) → InOrder is_lawful (answer op x y)
 answer_in_order op x y =
     let z = rounded op x y in
-    in_order is_lawful (divides_by_zero op (is_zero y)) (float_is_finite z) (code_of z) (code-lawful z (rounded-fits op x y))
+    in_order is_lawful (divides_by_zero op (is_zero y)) (float_is_finite z) (code_of z) (code_lawful z (rounded-fits op x y))

@@ -1,4 +1,4 @@
--- The checks of a listing decide whether it is that of a well_formed term.
+-- The checks of a listing decide whether it is that of a well-formed term.
 use Rattle.std.proofs.Common.{◌≡◌, ℕ, zero, suc, ◌+◌, ◌<◌, ◌≤◌, Bool, true, false, cond, ◌&&◌, ltb, leb, List, [], ◌∷◌, length, is_some, Some, None, Ok, Err, Option, sym, refl, ap, ◌∙◌, subst, arith}
 use Rattle.std.proofs.lemmas.Bool.{eqb-true, eq-eqb, leb-true, le-leb, lt-ltb, and_parts, and_from, cond-true}
 use Rattle.domain.specs.Meaning.{Meaning}
@@ -159,7 +159,7 @@ some_records : (ns : List Node) → count 1 ns ≡ over [] → 0 < length ns
 some_records [] e = clash cc
 some_records (n ∷ ns) e = omega arith
 
--- A listing that passes is that of a well_formed term.
+-- A listing that passes is that of a well-formed term.
 sound : (𝓜 : Meaning) (names : List ℕ) (ns : List Node) → checked 𝓜 names ns ≡ Ok tt → (t : Term) × ListingOf 𝓜 names ns t
 sound 𝓜 names ns e =
     let (e₁, rest₁) = both_passed (sized names ns) e in
@@ -180,7 +180,7 @@ sound 𝓜 names ns e =
       },
     )
 
--- The listing of a well_formed term passes.
+-- The listing of a well-formed term passes.
 passes : (𝓜 : Meaning) (names : List ℕ) (t : Term) → ListingOf 𝓜 names (listing t) t → checked 𝓜 names (listing t) ≡ Ok tt
 passes 𝓜 names t h =
     let ns = listing t in

@@ -98,14 +98,14 @@ checked 𝓜 names ns =
     (and_then (exact (length ns) (count 1 ns))
     (scoped 0 (names ∷ []) ns))))
 
--- A row of records is the listing of a well_formed term, and is not too long, nor are its names too many.
+-- A row of records is the listing of a well-formed term, and is not too long, nor are its names too many.
 pub record ListingOf (𝓜 : Meaning) (names : List ℕ) (ns : List Node) (t : Term) : Type 0 where
   pub is_listing : listing t ≡ ns
   pub well_formed : WellFormed 𝓜 names t
   pub few_records : length ns ≤ most_records
   pub few_names : length names ≤ most_names
 
--- A listing passes exactly when it is that of some well_formed term.
+-- A listing passes exactly when it is that of some well-formed term.
 pub record CheckDecides : Type 0 where
   pub sound : (𝓜 : Meaning) (names : List ℕ) (ns : List Node) → checked 𝓜 names ns ≡ Ok tt → (t : Term) × ListingOf 𝓜 names ns t
   pub complete : (𝓜 : Meaning) (names : List ℕ) (ns : List Node) (t : Term) → ListingOf 𝓜 names ns t → checked 𝓜 names ns ≡ Ok tt

@@ -129,7 +129,7 @@ impl Checker {
     }
 }
 
-/// A listing passes exactly when it is that of some well_formed term.
+/// A listing passes exactly when it is that of some well-formed term.
 pub fn check_decides() -> u8
     ensures { CheckDecides }
 {

@@ -38,16 +38,16 @@ below_more n (Let x a b) h = (omega (arith, h.0), omega (arith, h.1))
 below_more n (If q t e) h = (omega (arith, h.0), omega (arith, h.1), omega (arith, h.2))
 
 -- Children of a node below n are below n.
-pub children-below : (n : ℕ) (t : Tree) (s : List ℕ) → Below n t → AllBelow n s → AllBelow n (children t ++ s)
-children-below n (Num c) s h a = a
-children-below n (Truth b) s h a = a
-children-below n (Var x i) s h a = a
-children-below n (Binop o l r) s h a = (h.0, (h.1, a))
-children-below n (Eq l r) s h a = (h.0, (h.1, a))
-children-below n (App g b) s h a = (h.0, (h.1, a))
-children-below n (Lam x b) s h a = (h, a)
-children-below n (Let x v b) s h a = (h.0, (h.1, a))
-children-below n (If q t e) s h a = (h.0, (h.1, (h.2, a)))
+pub children_below : (n : ℕ) (t : Tree) (s : List ℕ) → Below n t → AllBelow n s → AllBelow n (children t ++ s)
+children_below n (Num c) s h a = a
+children_below n (Truth b) s h a = a
+children_below n (Var x i) s h a = a
+children_below n (Binop o l r) s h a = (h.0, (h.1, a))
+children_below n (Eq l r) s h a = (h.0, (h.1, a))
+children_below n (App g b) s h a = (h.0, (h.1, a))
+children_below n (Lam x b) s h a = (h, a)
+children_below n (Let x v b) s h a = (h.0, (h.1, a))
+children_below n (If q t e) s h a = (h.0, (h.1, (h.2, a)))
 
 -- A node is read off its children alone.
 over-same : (f g : ℕ → Term) (n : ℕ) (t : Tree) → ((i : ℕ) → i < n → f i ≡ g i) → Below n t → over f t ≡ over g t

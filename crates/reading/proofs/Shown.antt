@@ -31,15 +31,15 @@ never [] t e = clash cc
 never (a ∷ s) t e = clash cc
 
 -- A term that is left alone is on top.
-alone-on_top : (ms : List Mark) (s : List Term) (t : Term) → alone ms s ≡ Some t → top s ≡ t
-alone-on_top ms [] t e = clash cc
-alone-on_top [] (u ∷ []) t e = cc
-alone-on_top (m ∷ ms) (u ∷ []) t e = clash cc
-alone-on_top ms (u ∷ v ∷ s) t e = clash cc
+alone_on_top : (ms : List Mark) (s : List Term) (t : Term) → alone ms s ≡ Some t → top s ≡ t
+alone_on_top ms [] t e = clash cc
+alone_on_top [] (u ∷ []) t e = cc
+alone_on_top (m ∷ ms) (u ∷ []) t e = clash cc
+alone_on_top ms (u ∷ v ∷ s) t e = clash cc
 
-finished-on_top : (c : List Instruction) (ms : List Mark) (s : List Term) (t : Term) → finished c ms s ≡ Some t → top s ≡ t
-finished-on_top [] ms s t e = alone-on_top ms s t e
-finished-on_top (i ∷ c) ms s t e = clash cc
+finished_on_top : (c : List Instruction) (ms : List Mark) (s : List Term) (t : Term) → finished c ms s ≡ Some t → top s ≡ t
+finished_on_top [] ms s t e = alone_on_top ms s t e
+finished_on_top (i ∷ c) ms s t e = clash cc
 
 -- A variable that a binder ahead holds is kept.
 fill_var_held : (k i : ℕ) (σ : List Term) (kept : Term) → i < k → fill_var k σ kept i ≡ kept
@@ -55,7 +55,7 @@ under_test false o t e = clash cc
 -- What a code reads as, from any stack and whatever is open, is what it shows as.
 shown : (c : List Instruction) (k : ℕ) (ms : List Mark) (s : List Term) (t : Term) → attempt c k ms s ≡ Some t → read c k [] ms s ≡ t
 shown [] k ms s t e = clash cc
-shown (End ∷ c) k ms s t e = finished-on_top c ms s t e
+shown (End ∷ c) k ms s t e = finished_on_top c ms s t e
 shown (PushNum n ∷ c) k ms s t e = shown c k ms (num n ∷ s) t e
 shown (PushTruth b ∷ c) k ms s t e = shown c k ms (truth b ∷ s) t e
 shown (Access x i ∷ c) k ms s t e =

@@ -10,17 +10,17 @@ use Rattle.semantics.specs.Showing.{Mark, in_lambda, in_thunk, in_let, holding}
 use Rattle.reading.specs.Reading.{attempt, ReadsTranslations}
 
 -- What bears a name is within the names.
-bears-below : (names : List ℕ) (i x : ℕ) → Bears names i x → i < length names
-bears-below [] i x h = absurd h
-bears-below (y ∷ names) zero x h = omega arith
-bears-below (y ∷ names) (suc i) x h = omega (arith, bears-below names i x h)
+bears_below : (names : List ℕ) (i x : ℕ) → Bears names i x → i < length names
+bears_below [] i x h = absurd h
+bears_below (y ∷ names) zero x h = omega arith
+bears_below (y ∷ names) (suc i) x h = omega (arith, bears_below names i x h)
 
 -- To read a term's code is to push the term, where it is in scope of as many names as are held.
 attempt-emit : (p : ℕ) (t : Term) (c : List Instruction) (k : ℕ) (ms : List Mark) (s : List Term) (names : List ℕ) →
     holding k ms ≡ length names → InScope names t → attempt (emit p t c) k ms s ≡ attempt c k ms (t ∷ s)
 attempt-emit p (num n) c k ms s names e h = refl
 attempt-emit p (truth b) c k ms s names e h = refl
-attempt-emit p (var x i) c k ms s names e h = rw (lt-ltb i (holding k ms) (subst (λ n. i < n) (sym e) (bears-below names i x h))) refl
+attempt-emit p (var x i) c k ms s names e h = rw (lt-ltb i (holding k ms) (subst (λ n. i < n) (sym e) (bears_below names i x h))) refl
 attempt-emit p (binop o l r) c k ms s names e h = attempt-emit (suc p) l _ k ms s names e h.0 ∙ attempt-emit (suc p + size l) r _ k ms _ names e h.1
 attempt-emit p (eq l r) c k ms s names e h = attempt-emit (suc p) l _ k ms s names e h.0 ∙ attempt-emit (suc p + size l) r _ k ms _ names e h.1
 attempt-emit p (app f a) c k ms s names e h = attempt-emit (suc p) f _ k ms s names e h.0 ∙ attempt-emit (suc p + size f) a _ k ms _ names e h.1

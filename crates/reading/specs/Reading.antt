@@ -34,10 +34,10 @@ on_let (in_let x a ∷ ms) go = go x a ms
 
 -- Go on with the body that was last opened: a Lambda's or a thunk's.
 abbrev pub on_body : List Mark → (ℕ → List Mark → Option Term) → (List Mark → Option Term) → Option Term
-on_body [] lambda-closed thunk-closed = None
-on_body (in_lambda x ∷ ms) lambda-closed thunk-closed = lambda-closed x ms
-on_body (in_thunk ∷ ms) lambda-closed thunk-closed = thunk-closed ms
-on_body (in_let x a ∷ ms) lambda-closed thunk-closed = None
+on_body [] lambda_closed thunk_closed = None
+on_body (in_lambda x ∷ ms) lambda_closed thunk_closed = lambda_closed x ms
+on_body (in_thunk ∷ ms) lambda_closed thunk_closed = thunk_closed ms
+on_body (in_let x a ∷ ms) lambda_closed thunk_closed = None
 
 -- Nothing is open, and one term is left.
 abbrev pub alone : List Mark → List Term → Option Term

@@ -13,7 +13,7 @@ use Rattle.semantics.specs.Showing.{Mark, in_lambda, in_thunk, in_let, holding, 
 use Rattle.semantics.specs.ReadingBack.{decode}
 use Rattle.semantics.specs.PartialReading.{on_one, on_two, on_three, on_let, on_body, alone, Outer, variable, with_term, without_front_value, finished, returned, attempt, attempt_in, on_top, with_terms, attempt_own, attempt_frames, attempt_show, ReadsAsShown}
 use Rattle.semantics.proofs.Clash.{clash}
-use Rattle.semantics.proofs.ReadingBack.{fill_var_held, bears-below, bit_again, op_again}
+use Rattle.semantics.proofs.ReadingBack.{fill_var_held, bears_below, bit_again, op_again}
 
 -- What goes on with the terms on top of a stack finds them there.
 one_shown : (s : List Term) (go : Term → List Term → Option Term) (shown : Term → List Term → Term) (t : Term) →
@@ -51,20 +51,20 @@ terms_found None go t e = clash cc
 terms_found (Some u) go t e = (u, refl, e)
 
 -- A term that is left alone is on top.
-alone-on_top : (ms : List Mark) (s : List Term) (t : Term) → alone ms s ≡ Some t → top s ≡ t
-alone-on_top ms [] t e = clash cc
-alone-on_top [] (u ∷ []) t e = cc
-alone-on_top (m ∷ ms) (u ∷ []) t e = clash cc
-alone-on_top ms (u ∷ v ∷ s) t e = clash cc
+alone_on_top : (ms : List Mark) (s : List Term) (t : Term) → alone ms s ≡ Some t → top s ≡ t
+alone_on_top ms [] t e = clash cc
+alone_on_top [] (u ∷ []) t e = cc
+alone_on_top (m ∷ ms) (u ∷ []) t e = clash cc
+alone_on_top ms (u ∷ v ∷ s) t e = clash cc
 
-finished-on_top : (o : Outer) (c : List Instruction) (ms : List Mark) (s : List Term) (t : Term) → finished o c ms s ≡ Some t → top s ≡ t
-finished-on_top None [] ms s t e = alone-on_top ms s t e
-finished-on_top None (i ∷ c) ms s t e = clash cc
-finished-on_top (Some σ) c ms s t e = alone-on_top ms s t e
+finished_on_top : (o : Outer) (c : List Instruction) (ms : List Mark) (s : List Term) (t : Term) → finished o c ms s ≡ Some t → top s ≡ t
+finished_on_top None [] ms s t e = alone_on_top ms s t e
+finished_on_top None (i ∷ c) ms s t e = clash cc
+finished_on_top (Some σ) c ms s t e = alone_on_top ms s t e
 
 returned-on_top : (o : Outer) (s : List Term) (t : Term) → returned o s ≡ Some t → top s ≡ t
 returned-on_top None s t e = clash cc
-returned-on_top (Some σ) s t e = alone-on_top [] s t e
+returned-on_top (Some σ) s t e = alone_on_top [] s t e
 
 -- The terms that stand for outer variables: none, where nothing stands for them.
 abbrev outer_terms : Outer → List Term
@@ -88,7 +88,7 @@ variable_filled (Some σ) h x i t e = cc
 shown : (c : List Instruction) (k : ℕ) (o : Outer) (ms : List Mark) (s : List Term) (t : Term) → attempt c k o ms s ≡ Some t →
     read c k (outer_terms o) ms s ≡ t
 shown [] k o ms s t e = clash cc
-shown (End ∷ c) k o ms s t e = finished-on_top o c ms s t e
+shown (End ∷ c) k o ms s t e = finished_on_top o c ms s t e
 shown (PushNum n ∷ c) k o ms s t e = shown c k o ms (num n ∷ s) t e
 shown (PushTruth b ∷ c) k o ms s t e = shown c k o ms (truth b ∷ s) t e
 shown (Access x i ∷ c) k o ms s t e =
@@ -187,7 +187,7 @@ attempt_emit_back p (num n) c k ms s names e h = refl
 attempt_emit_back p (truth b) c k ms s names e h = refl
 attempt_emit_back p (var x i) c k ms s names e h =
     ap (λ b. with_term (cond b (Some (var x i)) None) (λ t. attempt c k None ms (t ∷ s)))
-    (lt-ltb i (holding k ms) (subst (λ n. i < n) (sym e) (bears-below names i x h)))
+    (lt-ltb i (holding k ms) (subst (λ n. i < n) (sym e) (bears_below names i x h)))
 attempt_emit_back p (binop o l r) c k ms s names e h =
     attempt_emit_back (suc p) l _ k ms s names e h.0 ∙ attempt_emit_back (suc p + size l) r _ k ms _ names e h.1
 attempt_emit_back p (eq l r) c k ms s names e h =

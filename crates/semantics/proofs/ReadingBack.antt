@@ -36,16 +36,16 @@ fill_var_held (suc k) zero σ kept h = refl
 fill_var_held (suc k) (suc i) σ kept h = fill_var_held k i σ kept (omega (arith, h))
 
 -- What bears a name is within the names.
-pub bears-below : (names : List ℕ) (i x : ℕ) → Bears names i x → i < length names
-bears-below [] i x h = absurd h
-bears-below (y ∷ names) zero x h = omega arith
-bears-below (y ∷ names) (suc i) x h = omega (arith, bears-below names i x h)
+pub bears_below : (names : List ℕ) (i x : ℕ) → Bears names i x → i < length names
+bears_below [] i x h = absurd h
+bears_below (y ∷ names) zero x h = omega arith
+bears_below (y ∷ names) (suc i) x h = omega (arith, bears_below names i x h)
 
 -- Filling leaves a term in scope as it is.
 fill-in_scope : (names : List ℕ) (σ : List Term) (t : Term) → InScope names t → fill (length names) σ t ≡ t
 fill-in_scope names σ (num c) h = refl
 fill-in_scope names σ (truth b) h = refl
-fill-in_scope names σ (var x i) h = fill_var_held (length names) i σ (var x i) (bears-below names i x h)
+fill-in_scope names σ (var x i) h = fill_var_held (length names) i σ (var x i) (bears_below names i x h)
 fill-in_scope names σ (binop o l r) h = ap₂ (binop o) (fill-in_scope names σ l h.0) (fill-in_scope names σ r h.1)
 fill-in_scope names σ (eq l r) h = ap₂ eq (fill-in_scope names σ l h.0) (fill-in_scope names σ r h.1)
 fill-in_scope names σ (app l r) h = ap₂ app (fill-in_scope names σ l h.0) (fill-in_scope names σ r h.1)

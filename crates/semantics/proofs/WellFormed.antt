@@ -72,7 +72,7 @@ module _ (𝓜 : Meaning) where
   filled_lawful k σ f (let_in x a b) h = (filled_lawful k σ f a h.0, filled_lawful (suc k) σ f b h.1)
   filled_lawful k σ f (if_then c t e) h = (filled_lawful k σ f c h.0, filled_lawful k σ f t h.1, filled_lawful k σ f e h.2)
 
-  -- Well-formed terms, filled in for all names, leave a well_formed term with none.
+  -- Well-formed terms, filled in for all names, leave a well-formed term with none.
   filled_well_formed : (names : List ℕ) (σ : List Term) → ((j : ℕ) → WellFormed 𝓜 [] (term_at σ j)) → (t : Term) → WellFormed 𝓜 names t →
       WellFormed 𝓜 [] (fill 0 σ t)
   filled_well_formed names σ f t (n, l) = (filled_in_scope [] names σ (λ j. (f j).0) t n, filled_lawful 0 σ (λ j. (f j).1) t l)
@@ -110,7 +110,7 @@ module _ (𝓜 : Meaning) where
   sequence_well_formed r_here h = h
   sequence_well_formed (r_more d r) h = sequence_well_formed r (reduct_well_formed d h)
 
-  -- Lawful inputs show as well_formed terms.
+  -- Lawful inputs show as well-formed terms.
   inputs_well_formed : (cs : List ℕ) → AllLawful 𝓜 cs → (j : ℕ) → WellFormed 𝓜 [] (term_at (reify_env (input_env cs)) j)
   inputs_well_formed [] h j = (tt, tt)
   inputs_well_formed (c ∷ cs) h zero = (tt, h.0)

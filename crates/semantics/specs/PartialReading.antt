@@ -34,10 +34,10 @@ on_let (in_let x a ∷ ms) let_closed none_open = let_closed x a ms
 
 -- Go on with the body that was last opened, a Lambda's or a thunk's; or as given where nothing is open.
 abbrev pub on_body : List Mark → (ℕ → List Mark → Option Term) → (List Mark → Option Term) → Option Term → Option Term
-on_body [] lambda-closed thunk-closed none_open = none_open
-on_body (in_lambda x ∷ ms) lambda-closed thunk-closed none_open = lambda-closed x ms
-on_body (in_thunk ∷ ms) lambda-closed thunk-closed none_open = thunk-closed ms
-on_body (in_let x a ∷ ms) lambda-closed thunk-closed none_open = None
+on_body [] lambda_closed thunk_closed none_open = none_open
+on_body (in_lambda x ∷ ms) lambda_closed thunk_closed none_open = lambda_closed x ms
+on_body (in_thunk ∷ ms) lambda_closed thunk_closed none_open = thunk_closed ms
+on_body (in_let x a ∷ ms) lambda_closed thunk_closed none_open = None
 
 -- Nothing is open, and one term is left.
 abbrev pub alone : List Mark → List Term → Option Term

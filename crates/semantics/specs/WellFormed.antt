@@ -12,7 +12,7 @@ use Rattle.semantics.specs.Lawful.{AllLawful}
 abbrev pub WellFormed : Meaning → List ℕ → Term → Type 0
 WellFormed 𝓜 names t = InScope names t × LawfulTerm 𝓜 t
 
--- After any number of steps from a well_formed term on lawful inputs the shown term is well formed, with no inputs.
+-- After any number of steps from a well-formed term on lawful inputs the shown term is well formed, with no inputs.
 abbrev pub ShownTermsAreWellFormed : Type 0
 ShownTermsAreWellFormed = (𝓜 : Meaning) (names cs : List ℕ) (t : Term) → WellFormed 𝓜 names t → AllLawful 𝓜 cs →
     (n : ℕ) (s : State) → Steps 𝓜 n (start t cs) s → WellFormed 𝓜 [] (show s)

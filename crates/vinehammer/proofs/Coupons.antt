@@ -6,7 +6,7 @@ use Rattle.domain.specs.declared.Op.{Op}
 use Rattle.domain.specs.declared.Op.TheVariants.{Sub, Mul, Div}
 use Rattle.domain.specs.declared.Fault.{Fault}
 use Rattle.domain.specs.Screen.{screen}
-use Rattle.domain.proofs.Layering.{screen-code}
+use Rattle.domain.proofs.Layering.{screen_code}
 use Rattle.whole.specs.Numbers.{number_of, exact, is_zero}
 use Rattle.whole.specs.Laws.{Truncates}
 use Rattle.whole.specs.Whole.{whole}
@@ -27,7 +27,7 @@ answered (Err f) next b h = let z : ◌≡◌ {A = ℕ} 0 1 = cc in absurd (omeg
 
 -- A code that the screened domain answers is that of the exact result.
 step-exact : (op : Op) (a b n : ℕ) → (screen whole).table op a b ≡ Ok n → number_of n ≡ exact op (number_of a) (number_of b)
-step-exact op a b n h = results_are_exact op a b n (screen-code whole op a b n h)
+step-exact op a b n h = results_are_exact op a b n (screen_code whole op a b n h)
 
 -- Taking back what was paid leaves what was dropped.
 left_over : (x y q d : ℤ) → Truncates x y q d → x -ℤ (q *ℤ y) ≡ d
@@ -43,7 +43,7 @@ split-exact total basis a h =
     let q = step-exact Div total basis amount paid.1 in
     let x = number_of total in
     let y = number_of basis in
-    let t = div_drops_toward_zero x y (quotients_have_divisors total basis amount (screen-code whole Div total basis amount paid.1)) in
+    let t = div_drops_toward_zero x y (quotients_have_divisors total basis amount (screen_code whole Div total basis amount paid.1)) in
     let b = step-exact Mul amount basis back.0 back.1 ∙ ap (λ z. z *ℤ y) q in
     let d = step-exact Sub total back.0 rest.0 rest.1 ∙ ap (λ z. x -ℤ z) b ∙ left_over x y (quot_z x y) (rem_z x y) t in
     let e : a ≡ record { amount = amount; dropped = rest.0 } = cc in

@@ -10,15 +10,15 @@ use Rattle.whole.specs.Closed.{range_magnitude}
 use Rattle.whole.specs.Whole.{whole}
 
 -- The code of a number in the range is that number's.
-pub number_of-code : (z : ℤ) → in_range z ≡ true → number_of (code_of z) ≡ z
-number_of-code z h =
+pub number_of_code : (z : ℤ) → in_range z ≡ true → number_of (code_of z) ≡ z
+number_of_code z h =
     let m = range_magnitude z h in
     let f : mag z < 2 ^ 63 = omega arith in
     to_z-of_z w64 z (record { sfits = f })
 
 settled-exact : (zero ok : Bool) (z : ℤ) (n : ℕ) → in_range z ≡ ok → divided zero (settled ok (code_of z)) ≡ Ok n → number_of n ≡ z
 settled-exact true ok z n e h = let c : ◌≡◌ {A = ℕ} 0 1 = cc in absurd (omega arith)
-settled-exact false true z n e h = let c : code_of z ≡ n = cc in ap number_of (sym c) ∙ number_of-code z e
+settled-exact false true z n e h = let c : code_of z ≡ n = cc in ap number_of (sym c) ∙ number_of_code z e
 settled-exact false false z n e h = let c : ◌≡◌ {A = ℕ} 0 1 = cc in absurd (omega arith)
 
 pub results_are_exact : (op : Op) (a b n : ℕ) → whole.table op a b ≡ Ok n → number_of n ≡ exact op (number_of a) (number_of b)

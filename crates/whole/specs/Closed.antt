@@ -19,18 +19,18 @@ pub range_magnitude : (z : ℤ) → in_range z ≡ true → mag z ≤ limit
 range_magnitude (pos n) h = leb-true n limit h
 range_magnitude (negsuc n) h = omega (arith, leb-true n _ (and_parts _ _ h).0)
 
-code-sized : (z : ℤ) → mag z ≤ limit → code_of z < 2 ^ 64
-code-sized (pos n) h = omega arith
-code-sized (negsuc n) h = omega arith
+code_sized : (z : ℤ) → mag z ≤ limit → code_of z < 2 ^ 64
+code_sized (pos n) h = omega arith
+code_sized (negsuc n) h = omega arith
 
 -- The code of a number in the range is lawful.
-code-lawful : (z : ℤ) → in_range z ≡ true → is_lawful (code_of z) ≡ true
-code-lawful z h =
+code_lawful : (z : ℤ) → in_range z ≡ true → is_lawful (code_of z) ≡ true
+code_lawful z h =
     let m : mag z ≤ limit = range_magnitude z h in
     let f : mag z < 2 ^ 63 = omega arith in
-    and_from _ _ (lt-ltb _ _ (code-sized z m)) (ap in_range (to_z-of_z w64 z (record { sfits = f })) ∙ h)
+    and_from _ _ (lt-ltb _ _ (code_sized z m)) (ap in_range (to_z-of_z w64 z (record { sfits = f })) ∙ h)
 
 pub answer_in_order : (op : Op) (x y : ℤ) → InOrder is_lawful (answer op x y)
 answer_in_order op x y =
     let z = exact op x y in
-    in_order is_lawful (divides_by_zero op (is_zero y)) (in_range z) (code_of z) (code-lawful z)
+    in_order is_lawful (divides_by_zero op (is_zero y)) (in_range z) (code_of z) (code_lawful z)

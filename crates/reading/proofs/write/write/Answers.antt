@@ -3,7 +3,7 @@ use Rattle.std.proofs.lemmas.List.{length-reverse, get_or_default}
 use Rattle.reading.specs.Arena.{term, AllBelow}
 use Rattle.reading.specs.declared.reader.Tree.TheVariants as T
 use Rattle.reading.proofs.Ends.{push_top, none_left}
-use Rattle.reading.proofs.Arena.{term_in_order, children-below}
+use Rattle.reading.proofs.Arena.{term_in_order, children_below}
 use Rattle.reading.proofs.Written.{one_record_more, no_room_left, all_written}
 use Rattle.reading.proofs.write.write.Goals as goal
 
@@ -35,7 +35,7 @@ loop-i-preserved c =
     let low = subst (AllBelow (length xs)) top c.loop-i.invariant.1 in
     let r = term_in_order xs i t c.requires.falls low.0 (get_or_default xs i _ _ low.0) in (
       one_record_more (term (reverse xs)) (length xs) i t _ _ _ (reverse (vec_items c.pop.new.self)) _ _ c.own_record.result r.1 c.loop-i.invariant.0 top r.0 c.push_reserved.ensures.items c.own_record.ensures c.push_children.ensures.items,
-      subst (AllBelow (length xs)) (sym c.push_children.ensures.items) (children-below (length xs) t _ r.1 low.1),
+      subst (AllBelow (length xs)) (sym c.push_children.ensures.items) (children_below (length xs) t _ r.1 low.1),
       omega (arith, c.push_reserved.ensures.len, c.if-len-limit.false, c.loop-i.invariant.2),
       omega (arith, c.push_reserved.ensures.capacity, c.loop-i.invariant.3),
       omega (arith, c.push_children.ensures.cap, c.pop.ensures.capacity, c.loop-i.invariant.4),
