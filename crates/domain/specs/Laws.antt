@@ -4,7 +4,8 @@ use Rattle.domain.specs.declared.Op.{Op}
 use Rattle.domain.specs.declared.Fault.{Fault}
 use Rattle.domain.specs.declared.Cause.TheVariants.{UnlawfulOperand}
 use Rattle.domain.specs.declared.pile.Pile.{Pile}
-use Rattle.domain.specs.Meaning.{Meaning, cause_number, raised}
+use Rattle.domain.specs.Meaning.{Meaning, raised}
+use Rattle.domain.specs.Numbers.{cause_number}
 use Rattle.domain.specs.Screen.{screen}
 use Rattle.domain.specs.Pile.{piled, bottom_of, layers}
 

@@ -1,3 +1,4 @@
+pub mod Numbers
 pub mod Meaning
 pub mod Bottom
 pub mod Screen

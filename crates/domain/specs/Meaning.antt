@@ -2,14 +2,8 @@
 use Rattle.std.specs.Prelude.{◌≡◌, ℕ, ◌+◌, ◌^◌, ◌<◌, min, Bool, true, Ok, Err, Result}
 use Rattle.domain.specs.declared.Op.{Op}
 use Rattle.domain.specs.declared.Cause.{Cause}
-use Rattle.domain.specs.declared.Cause.TheVariants.{UnlawfulResult, ZeroDivisor, UnlawfulOperand}
 use Rattle.domain.specs.declared.Fault.{Fault}
-
--- The number of each cause.
-abbrev pub cause_number : Cause → ℕ
-cause_number UnlawfulResult = 1
-cause_number ZeroDivisor = 2
-cause_number UnlawfulOperand = 3
+use Rattle.domain.specs.Numbers.{cause_number}
 
 -- The fault of a cause, at the height of the domain that answers it.
 abbrev pub fault_of : Cause → ℕ → Fault

@@ -6,18 +6,14 @@ use crate::pile::Pile;
 
 /// Layers keep lawful codes, sameness and the faults from below; their heights rise one by one and stay at 255;
 /// and a Screen answers on lawful codes as the domain below.
-pub fn layers_keep_answers() -> u8
+pub fn layers_keep_answers()
     ensures layer { ScreenIsALayer }
     ensures faults { FaultsPassEveryLayer }
     ensures heights { HeightsRiseTo255 }
     ensures below { ScreenAnswersAsBelow }
-{
-    0
-}
+{}
 
 /// A pile is so many layers over its bottom, and gives no fault of Screen's cause on lawful codes unless the bottom does.
-pub fn pile_stands<B: Domain>(pile: &Pile<B>) -> u8
+pub fn pile_stands<B: Domain>(pile: &Pile<B>)
     ensures { Stands B.Domain.meaning pile.now }
-{
-    0
-}
+{}

@@ -31,8 +31,10 @@ impl<B: Domain> Domain for Pile<B> {
     {
         match self {
             Pile::Bottom(bottom) => bottom.apply(op, left, right),
+            // Written out as in Screen: the check takes no recursion through Screen's own impl or a generic function.
             Pile::Screen(below) => {
                 require_lawful(below.is_lawful(left), below.is_lawful(right), self.height())?;
+                // By `?`, the form that DECISIONS.md lists.
                 let answer = below.apply(op, left, right)?;
                 Ok(answer)
             }

@@ -39,6 +39,7 @@ impl<D: Domain> Domain for Screen<D> {
             self.below.is_lawful(right),
             self.height(),
         )?;
+        // By `?`, the form that DECISIONS.md lists.
         let answer = self.below.apply(op, left, right)?;
         Ok(answer)
     }

@@ -1,49 +1,64 @@
-//! A case: a question to a pile of layers over a bottom domain, and the answer that it should give.
+//! A case: a pile of layers over a bottom domain, and what it should answer to a call.
+use binary64::Binary64;
 use domain::pile::Pile;
 use domain::screen::Screen;
 use domain::{Domain, Fault, Op};
 use std::alloc::{AllocError, Global};
-use std::str::Split;
+use std::num::ParseIntError;
+use std::str::{FromStr, Split};
+use whole::Whole;
 
 #[derive(Clone, Copy)]
-pub enum Bottom {
+enum Bottom {
     Whole,
     Binary64,
 }
 
+/// A call of a domain, and the answer that it should give.
 #[derive(Clone, Copy)]
-pub enum Question {
-    Lawful(u64),
-    Same(u64, u64),
-    Apply(Op, u64, u64),
-    Height,
-}
-
-#[derive(Clone, Copy, PartialEq, Eq)]
-pub enum Answer {
-    Test(bool),
-    Code(u64),
-    Failed(Fault),
+enum Claim {
+    Lawful(u64, bool),
+    Same(u64, u64, bool),
+    Apply(Op, u64, u64, Result<u64, Fault>),
     Height(u8),
 }
 
-#[derive(Clone, Copy)]
-pub struct Case {
-    pub layers: u16,
-    pub bottom: Bottom,
-    pub question: Question,
-    pub answer: Answer,
+impl Claim {
+    fn holds<D: Domain>(&self, domain: &D) -> bool {
+        match *self {
+            Claim::Lawful(code, answer) => domain.is_lawful(code) == answer,
+            Claim::Same(left, right, answer) => domain.is_same(left, right) == answer,
+            Claim::Apply(op, left, right, answer) => domain.apply(op, left, right) == answer,
+            Claim::Height(answer) => domain.height() == answer,
+        }
+    }
 }
 
-fn ask<D: Domain>(domain: &D, question: Question) -> Answer {
-    match question {
-        Question::Lawful(code) => Answer::Test(domain.is_lawful(code)),
-        Question::Same(left, right) => Answer::Test(domain.is_same(left, right)),
-        Question::Apply(op, left, right) => match domain.apply(op, left, right) {
-            Ok(code) => Answer::Code(code),
-            Err(fault) => Answer::Failed(fault),
-        },
-        Question::Height => Answer::Height(domain.height()),
+#[derive(Clone, Copy)]
+pub(crate) struct Case {
+    layers: u16,
+    bottom: Bottom,
+    claim: Claim,
+}
+
+impl Case {
+    /// Whether the pile answers as it should; so should a bottom alone, and one Screen over it.
+    // A bottom is a type, so the choice of one is a match; it is made here alone.
+    pub(crate) fn holds(&self, heap: Global) -> Result<bool, AllocError> {
+        match self.bottom {
+            Bottom::Whole => self.holds_over(heap, Whole),
+            Bottom::Binary64 => self.holds_over(heap, Binary64),
+        }
+    }
+
+    fn holds_over<B: Domain + Copy>(&self, heap: Global, bottom: B) -> Result<bool, AllocError> {
+        let alone = match self.layers {
+            0 => self.claim.holds(&bottom),
+            1 => self.claim.holds(&Screen { below: bottom }),
+            _ => true,
+        };
+        let pile = screens_over(heap, bottom, self.layers)?;
+        Ok(alone && self.claim.holds(&pile))
     }
 }
 
@@ -56,75 +71,93 @@ fn screens_over<B: Drop>(heap: Global, bottom: B, layers: u16) -> Result<Pile<B>
     Ok(pile)
 }
 
-/// Whether the pile answers as it should; so should a bottom alone, and one Screen over it.
-pub fn agrees<B: Domain + Copy>(heap: Global, bottom: B, case: &Case) -> Result<bool, AllocError> {
-    let alone = match case.layers {
-        0 => ask(&bottom, case.question),
-        1 => ask(&Screen { below: bottom }, case.question),
-        _ => case.answer,
-    };
-    let piled = ask(&screens_over(heap, bottom, case.layers)?, case.question);
-    Ok(alone == case.answer && piled == case.answer)
+/// Why a line is no case.
+#[derive(Clone, Copy)]
+pub(crate) enum ParseCaseError {
+    TooShort,
+    TooLong,
+    UnknownWord,
+    BadNumber,
 }
 
-fn code(word: &str) -> Option<u64> {
-    u64::from_str_radix(word, 16).ok()
-}
-
-fn operation(word: &str) -> Option<Op> {
-    match word {
-        "add" => Some(Op::Add),
-        "sub" => Some(Op::Sub),
-        "mul" => Some(Op::Mul),
-        "div" => Some(Op::Div),
-        _ => None,
+impl From<ParseIntError> for ParseCaseError {
+    fn from(_error: ParseIntError) -> ParseCaseError {
+        ParseCaseError::BadNumber
     }
 }
 
-fn parse_question(words: &mut Split<'_, char>) -> Option<Question> {
-    match words.next()? {
-        "height" => Some(Question::Height),
-        "lawful" => Some(Question::Lawful(code(words.next()?)?)),
-        "same" => Some(Question::Same(code(words.next()?)?, code(words.next()?)?)),
-        word => Some(Question::Apply(operation(word)?, code(words.next()?)?, code(words.next()?)?)),
-    }
-}
+impl FromStr for Bottom {
+    type Err = ParseCaseError;
 
-fn parse_answer(words: &mut Split<'_, char>, question: Question) -> Option<Answer> {
-    let word = words.next()?;
-    match question {
-        Question::Height => Some(Answer::Height(word.parse::<u8>().ok()?)),
-        Question::Lawful(_) => Some(Answer::Test(word == "yes")),
-        Question::Same(_, _) => Some(Answer::Test(word == "yes")),
-        Question::Apply(_, _, _) => {
-            if word != "fault" {
-                return Some(Answer::Code(code(word)?));
-            }
-            let cause = words.next()?.parse::<u8>().ok()?;
-            let height = words.next()?.parse::<u8>().ok()?;
-            Some(Answer::Failed(Fault { cause, height }))
+    fn from_str(word: &str) -> Result<Bottom, ParseCaseError> {
+        match word {
+            "whole" => Ok(Bottom::Whole),
+            "binary64" => Ok(Bottom::Binary64),
+            _ => Err(ParseCaseError::UnknownWord),
         }
     }
 }
 
-/// A case from its line: LAYERS BOTTOM QUESTION ANSWER.
-pub fn parse(line: &str) -> Option<Case> {
-    let mut words = line.split(' ');
-    let layers = words.next()?.parse::<u16>().ok()?;
-    let bottom = match words.next()? {
-        "whole" => Bottom::Whole,
-        "binary64" => Bottom::Binary64,
-        _ => return None,
-    };
-    let question = parse_question(&mut words)?;
-    let answer = parse_answer(&mut words, question)?;
-    if words.next().is_some() {
-        return None;
+/// A line is LAYERS BOTTOM CALL OPERANDS.. ANSWER, with one space between words.
+impl FromStr for Case {
+    type Err = ParseCaseError;
+
+    fn from_str(line: &str) -> Result<Case, ParseCaseError> {
+        let mut words = Words(line.split(' '));
+        let case = Case {
+            layers: words.word()?.parse()?,
+            bottom: words.word()?.parse()?,
+            claim: words.claim()?,
+        };
+        match words.0.next() {
+            None => Ok(case),
+            Some(_) => Err(ParseCaseError::TooLong),
+        }
     }
-    Some(Case {
-        layers,
-        bottom,
-        question,
-        answer,
-    })
+}
+
+/// The words of a line that are still to be read.
+#[derive(Drop)]
+struct Words<'a>(Split<'a, char>);
+
+impl<'a> Words<'a> {
+    fn word(&mut self) -> Result<&'a str, ParseCaseError> {
+        self.0.next().ok_or(ParseCaseError::TooShort)
+    }
+
+    fn code(&mut self) -> Result<u64, ParseCaseError> {
+        Ok(u64::from_str_radix(self.word()?, 16)?)
+    }
+
+    fn is_yes(&mut self) -> Result<bool, ParseCaseError> {
+        Ok(self.word()? == "yes")
+    }
+
+    fn claim(&mut self) -> Result<Claim, ParseCaseError> {
+        match self.word()? {
+            "lawful" => Ok(Claim::Lawful(self.code()?, self.is_yes()?)),
+            "same" => Ok(Claim::Same(self.code()?, self.code()?, self.is_yes()?)),
+            "height" => Ok(Claim::Height(self.word()?.parse()?)),
+            "add" => self.apply(Op::Add),
+            "sub" => self.apply(Op::Sub),
+            "mul" => self.apply(Op::Mul),
+            "div" => self.apply(Op::Div),
+            _ => Err(ParseCaseError::UnknownWord),
+        }
+    }
+
+    fn apply(&mut self, op: Op) -> Result<Claim, ParseCaseError> {
+        Ok(Claim::Apply(op, self.code()?, self.code()?, self.answer()?))
+    }
+
+    /// The code that an operation answers, or `fault CAUSE HEIGHT`.
+    fn answer(&mut self) -> Result<Result<u64, Fault>, ParseCaseError> {
+        match self.word()? {
+            "fault" => Ok(Err(Fault {
+                cause: self.word()?.parse()?,
+                height: self.word()?.parse()?,
+            })),
+            code => Ok(Ok(u64::from_str_radix(code, 16)?)),
+        }
+    }
 }

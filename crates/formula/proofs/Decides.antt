@@ -1,6 +1,7 @@
 -- The checks of a listing decide whether it is that of a well-formed term.
 use Rattle.std.proofs.Common.{◌≡◌, ℕ, zero, suc, ◌+◌, ◌<◌, ◌≤◌, Bool, true, false, cond, ◌&&◌, ltb, leb, List, [], ◌∷◌, length, is_some, Some, None, Ok, Err, Option, sym, refl, ap, ◌∙◌, subst, arith}
 use Rattle.std.proofs.lemmas.Bool.{eqb-true, eq-eqb, leb-true, le-leb, lt-ltb, and_parts, and_from, cond-true}
+use Rattle.std.specs.List.{AllByRecursion}
 use Rattle.domain.specs.Meaning.{Meaning}
 use Rattle.semantics.specs.declared.layout.Node.{Node}
 use Rattle.semantics.specs.declared.layout.Label.{Label}
@@ -14,9 +15,9 @@ use Rattle.semantics.proofs.Clash.{clash}
 use Rattle.semantics.proofs.Counting.{counting_decides}
 use Rattle.formula.specs.declared.refusal.Refusal.{Refusal}
 use Rattle.formula.specs.declared.refusal.Refusal.TheVariants.{Size, OutsideTable, Unlawful, OutOfScope}
-use Rattle.formula.specs.Label.{label_of}
+use Rattle.semantics.specs.Label.{label_of}
 use Rattle.formula.specs.Check.{Checked, and_then, sized, each_passes, has_label, lawful_number, exact, bears, label_in_scope, scopes_below, in_scope, scopes_after, scoped, checked, ListingOf, CheckDecides}
-use Rattle.formula.proofs.Labels.{label_of_record, labels_are_the_table}
+use Rattle.semantics.proofs.Labels.{label_of_record, labels_are_the_table}
 
 -- A test that is followed by no refusal has passed.
 passed : (b : Bool) (x : Checked) (r : Refusal) → cond b x (Err r) ≡ Ok tt → (b ≡ true) × (x ≡ Ok tt)
@@ -33,8 +34,7 @@ both_pass {a} {b} p q = ap (λ x. and_then x b) p ∙ q
 
 -- Every record of a row passes a test.
 abbrev AllPass : (Node → Bool) → List Node → Type 0
-AllPass test [] = Unit {0}
-AllPass test (n ∷ ns) = (test n ≡ true) × AllPass test ns
+AllPass test ns = AllByRecursion (λ n. test n ≡ true) ns
 
 all_passed : (test : Node → Bool) (refusal : ℕ → Refusal) (p : ℕ) (ns : List Node) → each_passes test refusal p ns ≡ Ok tt → AllPass test ns
 all_passed test refusal p [] e = tt

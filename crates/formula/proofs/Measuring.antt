@@ -1,7 +1,10 @@
 -- Measuring from the last record to the first measures every term.
-use Rattle.std.proofs.Common.{◌≡◌, ℕ, zero, suc, ◌+◌, ◌-◌, ◌*◌, ◌<◌, ◌≤◌, min, List, [], ◌∷◌, ◌++◌, reverse, length, get_or, drop, sym, refl, ap, ◌∙◌, arith}
+use Rattle.std.proofs.Common.{◌≡◌, ℕ, zero, suc, ◌+◌, ◌-◌, ◌*◌, ◌<◌, ◌≤◌, min, List, [], ◌∷◌, ◌++◌, reverse, length, get_or, drop, Some, None, Option, sym, refl, ap, ◌∙◌, arith}
 use native.Mathlib.Nat.{min-eq_left}
-use Rattle.std.proofs.lemmas.List.{reverse-append, length-reverse, length-drop, get_or-reverse, get_or_default, get_or_past, drop-drop, drop_more}
+use Rattle.std.proofs.lemmas.List.{reverse-append, length-reverse, length-drop, get_or-reverse, drop-drop, drop_more}
+use Rattle.std.proofs.lemmas.Option.{unwrap_or-slice_get}
+use Rattle.std.specs.List.{slice_get}
+use Rattle.std.specs.Option.{UnwrapsOrElse, unwrap_or}
 use Rattle.semantics.specs.declared.layout.Node.{Node}
 use Rattle.semantics.specs.declared.layout.Label.{Label}
 use Rattle.semantics.specs.declared.layout.Label.TheVariants.{Num, Truth, Var, Binop, Eq, App, Lam, Let, If}
@@ -11,23 +14,14 @@ use Rattle.semantics.specs.Translation.{code_size}
 use Rattle.semantics.specs.Sizes.{most_records}
 use Rattle.semantics.proofs.CodeSize.{listing-length, code_size_bounded}
 use Rattle.formula.specs.declared.translate.Extent.{Extent}
-use Rattle.formula.specs.Label.{label_of}
-use Rattle.formula.proofs.Labels.{label_of_record}
+use Rattle.semantics.specs.Label.{label_of}
+use Rattle.semantics.proofs.Labels.{label_of_record}
 use Rattle.formula.specs.Translate.{extent, max_u16, together, measured_at, with_child, whole, measure_of, Measured}
 
--- Rows read from their end.
-module _ {A : Type 0} where
-  -- What stands so many from the end.
-  pub read_from_end : (xs : List A) (n : ℕ) (x d : A) → n < length xs → x ≡ get_or xs (length xs - 1 - n) x → x ≡ get_or (reverse xs) n d
-  read_from_end xs n x d h e = e ∙ get_or_default xs (length xs - 1 - n) x d (omega arith) ∙ sym (get_or-reverse xs n d h)
-
-  -- Past all of the row stands nothing.
-  pub past_the_end : (xs : List A) (n : ℕ) (d : A) → length xs ≤ n → d ≡ get_or (reverse xs) n d
-  past_the_end xs n d h = sym (get_or_past (reverse xs) n d (rw length-reverse h))
-
-  -- What is added last comes first.
-  pub push_on_top : (xs ys : List A) (y : A) → ys ≡ xs ++ y ∷ [] → reverse ys ≡ y ∷ reverse xs
-  push_on_top xs ys y e = ap reverse e ∙ reverse-append xs (y ∷ [])
+-- What the record at a place has, or else the default, is what was measured there.
+pub measured_or_none : {none : Extent → Type 0} (xs : List Extent) (p : ℕ) {o : Option Extent} {x : Extent} → ((y : Extent) → none y → y ≡ extent 0 0) → o ≡ slice_get xs p → UnwrapsOrElse o none x → x ≡ measured_at xs p
+measured_or_none xs p {o = None} default e h = default _ h ∙ ap (λ o. unwrap_or o (extent 0 0)) e ∙ unwrap_or-slice_get xs p (extent 0 0)
+measured_or_none xs p {o = Some y} default e h = h ∙ ap (λ o. unwrap_or o (extent 0 0)) e ∙ unwrap_or-slice_get xs p (extent 0 0)
 
 -- Past so many, and past so many more.
 pub further : {A : Type 0} (m n : ℕ) (xs : List A) {ys zs : List A} → drop m xs ≡ ys → drop n ys ≡ zs → drop (m + n) xs ≡ zs
@@ -99,16 +93,20 @@ module _ (n : Node) (row : List Node) (xs : List Extent) (long : length row < mo
   measured_more zero t rest e = first_measured t rest e
   measured_more (suc p) t rest e = behind p t rest e
 
--- No term begins in an empty row.
-pub measured_none : (xs : List Extent) → Measured [] xs
-measured_none xs p t rest e = absurd (omega (arith, within [] p t rest e, code_size_bounded t))
+-- No term begins past the end of a row.
+pub measured_none : (row : List Node) (k : ℕ) (xs : List Extent) → length row ≤ k → Measured (drop k row) xs
+measured_none row k xs h p t rest e = absurd (omega (arith, within (drop k row) p t rest e, length-drop k row, code_size_bounded t))
 
--- One record more, before those that are measured.
-pub measured_step : (row : List Node) (i p : ℕ) (d : Node) (xs ys : List Extent) → length row ≤ most_records → i < length row → i + 1 ≡ p →
-    Measured (drop p row) xs → ys ≡ measure_of xs (label_of (get_or row i d)) ∷ xs → Measured (drop i row) ys
-measured_step row i p d xs ys long lt next behind e =
-    let n = get_or row i d in
-    let front : drop i row ≡ n ∷ drop p row = drop_more row i d lt ∙ ap (λ j. n ∷ drop j row) next in
-    let short : length (drop p row) < most_records = simp length-drop (omega arith) in
-    let more : Measured (n ∷ drop p row) (measure_of xs (label_of n) ∷ xs) = measured_more n (drop p row) xs short behind in
-    λ q t rest h. ap (λ z. measured_at z q) e ∙ more q t rest (ap (drop q) (sym front) ∙ h)
+-- One record more, before the k from the end that are measured.
+pub measured_step : (row : List Node) (k m : ℕ) (n : Node) (xs ys : List Extent) → length row ≤ most_records → k < length (reverse row) → n ≡ get_or (reverse row) k n → m ≡ k + 1 →
+    Measured (drop (length row - k) row) (reverse xs) → ys ≡ xs ++ measure_of (reverse xs) (label_of n) ∷ [] → Measured (drop (length row - m) row) (reverse ys)
+measured_step row k m n xs ys long lt at more behind e =
+    let inside : k < length row = omega (arith, length-reverse row) in
+    let i = length row - m in
+    let this : length row - 1 - k ≡ i = omega arith in
+    let next : i + 1 ≡ length row - k = omega arith in
+    let here : n ≡ get_or row i n = at ∙ get_or-reverse row k n inside ∙ ap (λ j. get_or row j n) this in
+    let front : drop i row ≡ n ∷ drop (length row - k) row = drop_more row i n (omega arith) ∙ (λ j. sym here j ∷ drop (next j) row) in
+    let short : length (drop (length row - k) row) < most_records = simp length-drop (omega arith) in
+    let measured = measured_more n (drop (length row - k) row) (reverse xs) short behind in
+    λ q t rest h. ap (λ z. measured_at z q) (ap reverse e ∙ reverse-append xs _) ∙ measured q t rest (ap (drop q) (sym front) ∙ h)

@@ -11,7 +11,7 @@ use Rattle.semantics.specs.Sizes.{most_records, most_names}
 use Rattle.semantics.specs.WellFormed.{WellFormed}
 use Rattle.formula.specs.declared.refusal.Refusal.{Refusal}
 use Rattle.formula.specs.declared.refusal.Refusal.TheVariants.{Size, OutsideTable, Unlawful, EndsEarly, RecordsOver, OutOfScope}
-use Rattle.formula.specs.Label.{label_of}
+use Rattle.semantics.specs.Label.{label_of}
 
 -- What a check answers: that a listing passes, or why it is refused.
 abbrev pub Checked : Type 0

@@ -1,9 +1,7 @@
-//! Formulas in code: what records and instructions say, the checks of a listing, and its translation.
+//! Formulas in code: the checks of a listing, and its translation.
 #![tactic(auto)]
 
 pub mod check;
-pub mod instruction;
-pub mod label;
 pub mod load;
 pub mod refusal;
 pub mod scope;

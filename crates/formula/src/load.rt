@@ -10,7 +10,7 @@ use domain::Domain;
 use semantics::layout::{Instruction, MOST_INSTRUCTIONS, Node};
 use std::alloc::{AllocError, Global};
 
-/// Code, with room for the longest.
+/// Code, with room for the longest. A vector and no BoundedVec, since translation promises that its capacity stays.
 #[derive(Drop)]
 pub struct Code {
     pub items: Vec<Instruction>,
@@ -44,6 +44,8 @@ impl Loader {
             translator,
         })
     }
+
+    // Domain, names and listing stand side by side as in `Checker::check`, where it is said why.
 
     /// Replaces the code by the translation of a listing whose inputs have these names, and answers its length; or answers
     /// the first refusal that fits, and leaves the code as it was.

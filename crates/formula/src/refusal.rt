@@ -2,8 +2,11 @@
 ghost use Rattle.std.specs.Prelude.{◌≡◌};
 ghost use Rattle.formula.specs.Refusal.{refusal_number, refusal_place};
 
+use std::error::Error;
+use std::fmt;
+
 /// Why a listing or code is refused. A place counts records or instructions from 0.
-#[derive(Clone, Copy, PartialEq, Eq)]
+#[derive(Clone, Copy, Debug, PartialEq, Eq)]
 pub enum Refusal {
     /// There are no records or too many, or too many names.
     Size,
@@ -22,7 +25,7 @@ pub enum Refusal {
 }
 
 impl Refusal {
-    /// The number by which the refusal is known.
+    /// The number by which the refusal is known. The rules give it, and two refusals share one.
     pub fn number(&self) -> u8
         ensures { result ≡ refusal_number self.now }
     {
@@ -30,8 +33,7 @@ impl Refusal {
             Refusal::Size => 1,
             Refusal::OutsideTable(_) => 2,
             Refusal::Unlawful(_) => 3,
-            Refusal::EndsEarly(_) => 4,
-            Refusal::RecordsOver(_) => 4,
+            Refusal::EndsEarly(_) | Refusal::RecordsOver(_) => 4,
             Refusal::OutOfScope(_) => 5,
             Refusal::NoTranslation => 6,
         }
@@ -42,13 +44,22 @@ impl Refusal {
         ensures { result ≡ refusal_place self.now }
     {
         match self {
-            Refusal::Size => 0,
-            Refusal::OutsideTable(place) => *place,
-            Refusal::Unlawful(place) => *place,
-            Refusal::EndsEarly(place) => *place,
-            Refusal::RecordsOver(place) => *place,
-            Refusal::OutOfScope(place) => *place,
-            Refusal::NoTranslation => 0,
+            Refusal::Size | Refusal::NoTranslation => 0,
+            Refusal::OutsideTable(place)
+            | Refusal::Unlawful(place)
+            | Refusal::EndsEarly(place)
+            | Refusal::RecordsOver(place)
+            | Refusal::OutOfScope(place) => *place,
         }
     }
 }
+
+/// A refusal by its number and its place.
+impl fmt::Display for Refusal {
+    fn fmt<W: fmt::Write>(&self, f: &mut fmt::Formatter<W>) -> fmt::Result {
+        let (number, place) = (self.number(), self.place());
+        write!(f, "refused {number} at {place}")
+    }
+}
+
+impl Error for Refusal {}

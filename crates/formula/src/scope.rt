@@ -1,149 +1,184 @@
 //! The check that every variable is in scope, by one walk over the listing.
-ghost use Rattle.std.specs.Prelude.{◌≡◌, ◌+◌, ◌<◌, ◌≤◌, [], ◌∷◌, reverse, length, vec_len, vec_capacity};
+ghost use Rattle.std.specs.Prelude.{◌≡◌, ◌+◌, ◌<◌, ◌≤◌, [], ◌∷◌, ◌++◌, length, slice_get, IfOk, IfSome, IfNone};
+ghost use Rattle.std.specs.Option.{option_to_list};
 ghost use Rattle.semantics.specs.Sizes.{most_records};
-ghost use Rattle.formula.specs.Check.{bears, label_in_scope, scoped};
-ghost use Rattle.formula.specs.Scopes.{Entered, Falling, most_owed, owed_below, scope_at};
+ghost use Rattle.formula.specs.Check.{label_in_scope, scopes_below, scoped};
+ghost use Rattle.formula.specs.Scopes.{most_owed};
 
-use crate::label::label_of;
 use crate::refusal::Refusal;
+use bounded::BoundedVec;
 use semantics::layout::{Label, MOST_RECORDS, Node};
+use std::alloc::{AllocError, Global};
+use std::marker::Model;
 
 /// The most terms that are owed at a time: one, and three for each record.
-pub const MOST_OWED: usize = 3 * MOST_RECORDS + 1;
+const MOST_OWED: usize = 3 * MOST_RECORDS + 1;
 
 /// A term still owed: how many binders of the path it is under, and the binder that it is under besides.
 #[derive(Clone, Copy)]
-pub struct Owed {
+struct Owed {
     depth: usize,
     binder: Option<u16>,
 }
 
-/// Past so many names, innermost first, one comes that is this one. The path has its outermost binder first.
-fn bears_name(path: &[u16], names: &[u16], between: u64, name: u16) -> bool
-    ensures { result ≡ bears (scope_at names.now path.now (length path.now)) between name }
-{
-    let between = between as usize;
-    if between < path.len() {
-        return path[path.len() - 1 - between] == name;
-    }
-    let past = between - path.len();
-    if past < names.len() {
-        return names[past] == name;
-    }
-    false
+/// A walk over a listing: the terms still owed, the next one last, and the binders on the path to the node at hand, the
+/// outermost first. A clause sees the binders of each, innermost first.
+#[derive(Drop)]
+pub struct Walk {
+    owed: BoundedVec<Owed, MOST_OWED>,
+    path: BoundedVec<u16, MOST_RECORDS>,
 }
 
-/// A record is in scope where the path leads.
-fn is_in_scope(label: Label, path: &[u16], names: &[u16]) -> bool
-    ensures { result ≡ label_in_scope label (scope_at names.now path.now (length path.now)) }
-{
-    match label {
-        Label::Num(_) => true,
-        Label::Truth(_) => true,
-        Label::Var { name, between } => bears_name(path, names, between, name),
-        Label::Binop(_) => true,
-        Label::Eq => true,
-        Label::App => true,
-        Label::Lam { .. } => true,
-        Label::Let { .. } => true,
-        Label::If => true,
+impl Model for Walk {
+    ghost use Rattle.std.specs.Prelude.{map, reverse, length};
+    ghost use Rattle.formula.specs.Scopes.{Walked, Falling, binders_of};
+
+    ghost Value = { Walked };
+
+    ghost view = { λ w. record { here = reverse w.path; owed = map (binders_of w.path) (reverse w.owed) } };
+
+    ghost invariant = { λ w. Falling (length w.path) (reverse w.owed) };
+}
+
+impl Walk {
+    /// Reserves the scratch.
+    pub fn new(heap: Global) -> Result<Walk, AllocError>
+        ensures { IfOk result (λ w. w ≡ record { here = []; owed = [] }) }
+    {
+        let owed = BoundedVec::new(heap)?;
+        let path = BoundedVec::new(heap)?;
+        Ok(Walk { owed, path })
+    }
+
+    /// The name past so many of those in scope at the node at hand, innermost first.
+    fn name_at(&self, names: &[u16], between: u64) -> Option<u16>
+        ensures { result ≡ slice_get (self.now.here ++ names.now) between }
+    {
+        let between = usize::try_from(between).ok()?;
+        self.path
+            .as_slice()
+            .iter()
+            .rev()
+            .chain(names)
+            .nth(between)
+            .copied()
+    }
+
+    /// A record is in scope at the node at hand.
+    #[tactic(auto, using(crate::proofs::Scopes::bears_at))]
+    fn is_in_scope(&self, names: &[u16], label: Label) -> bool
+        ensures { result ≡ label_in_scope label (self.now.here ++ names.now) }
+    {
+        match label {
+            Label::Var { name, between } => self.name_at(names, between) == Some(name),
+            Label::Num(_)
+            | Label::Truth(_)
+            | Label::Binop(_)
+            | Label::Eq
+            | Label::App
+            | Label::Lam { .. }
+            | Label::Let { .. }
+            | Label::If => true,
+        }
+    }
+
+    /// One more term is owed below the node at hand, before all others.
+    fn owe(&mut self, binder: Option<u16>)
+        requires { length self.old.owed < most_owed }
+        ensures { self.new ≡ record self.old { owed = (option_to_list binder ++ self.old.here) ∷ self.old.owed } }
+    {
+        let depth = self.path.len();
+        self.owed.push(Owed { depth, binder });
+    }
+
+    /// The children of the node at hand are owed, the first before the others.
+    fn owe_children(&mut self, label: Label)
+        requires { length self.old.owed + 3 ≤ most_owed }
+        ensures { self.new ≡ record self.old { owed = scopes_below label self.old.here self.old.owed } }
+    {
+        match label {
+            Label::Num(_) | Label::Truth(_) | Label::Var { .. } => {}
+            Label::Lam { name } => self.owe(Some(name)),
+            Label::Binop(_) | Label::Eq | Label::App => {
+                self.owe(None);
+                self.owe(None);
+            }
+            Label::Let { name } => {
+                self.owe(Some(name));
+                self.owe(None);
+            }
+            Label::If => {
+                self.owe(None);
+                self.owe(None);
+                self.owe(None);
+            }
+        }
+    }
+
+    /// One term is owed, under no binder.
+    fn begin(&mut self)
+        ensures { self.new ≡ record { here = []; owed = [] ∷ [] } }
+    {
+        self.owed.clear();
+        self.path.clear();
+        self.owe(None);
+    }
+
+    /// Goes to the node of the next term owed, if one is.
+    fn enter(&mut self) -> Option<()>
+        requires { length self.old.here < most_records }
+        ensures some { IfSome result (λ _. self.old.owed ≡ self.new.here ∷ self.new.owed) }
+        ensures none { IfNone result (self.old.owed ≡ []) }
+        ensures deeper { length self.new.here ≤ length self.old.here + 1 }
+    {
+        let next = self.owed.pop()?;
+        self.path.truncate(next.depth);
+        if let Some(name) = next.binder {
+            self.path.push(name);
+        }
+        Some(())
+    }
+
+    /// Every variable is in scope.
+    // That the listing is short is asked here as in check.rt, which says why.
+    pub fn check_scopes(&mut self, names: &[u16], listing: &[Node]) -> Result<(), Refusal>
+        requires { length listing.now ≤ most_records }
+        ensures { result ≡ scoped 0 (names.now ∷ []) listing.now }
+    {
+        self.begin();
+        for (place, node) in listing.iter().enumerate() {
+            let Some(()) = self.enter() else {
+                return Ok(());
+            };
+            let Ok(label) = Label::try_from(*node) else {
+                return Err(Refusal::OutOfScope(place));
+            };
+            if !self.is_in_scope(names, label) {
+                return Err(Refusal::OutOfScope(place));
+            }
+            self.owe_children(label);
+        }
+        Ok(())
     }
 }
 
-/// One more term is owed, before all others.
-fn owe(owed: &mut Vec<Owed>, depth: usize, binder: Option<u16>)
-    requires { vec_len owed.old < vec_capacity owed.old }
-    ensures items { reverse owed.new.items ≡ record { depth = depth; binder = binder } ∷ reverse owed.old.items }
-    ensures len { vec_len owed.new ≡ vec_len owed.old + 1 }
-    ensures capacity { vec_capacity owed.new ≡ vec_capacity owed.old }
-{
-    owed.push_reserved(Owed { depth, binder });
-}
+#[cfg(test)]
+mod tests {
+    use super::Walk;
+    use crate::refusal::Refusal;
+    use semantics::kind::NodeKind;
+    use semantics::layout::Node;
+    use std::alloc::AllocError;
 
-/// The children of a node at this depth are owed, the first before the others.
-fn owe_children(owed: &mut Vec<Owed>, depth: usize, label: Label)
-    requires { vec_len owed.old + 3 ≤ vec_capacity owed.old }
-    ensures items { reverse owed.new.items ≡ owed_below label depth (reverse owed.old.items) }
-    ensures len { vec_len owed.new ≤ vec_len owed.old + 3 }
-    ensures capacity { vec_capacity owed.new ≡ vec_capacity owed.old }
-{
-    match label {
-        Label::Num(_) => {}
-        Label::Truth(_) => {}
-        Label::Var { .. } => {}
-        Label::Binop(_) => {
-            owe(owed, depth, None);
-            owe(owed, depth, None);
-        }
-        Label::Eq => {
-            owe(owed, depth, None);
-            owe(owed, depth, None);
-        }
-        Label::App => {
-            owe(owed, depth, None);
-            owe(owed, depth, None);
-        }
-        Label::Lam { name } => owe(owed, depth, Some(name)),
-        Label::Let { name } => {
-            owe(owed, depth, Some(name));
-            owe(owed, depth, None);
-        }
-        Label::If => {
-            owe(owed, depth, None);
-            owe(owed, depth, None);
-            owe(owed, depth, None);
-        }
+    #[test]
+    fn finds_an_input(rt: HostRuntime) -> Result<(), AllocError> {
+        let mut walk = Walk::new(rt.alloc())?;
+        let listing = [
+            Node::new(NodeKind::Lam, 5, 0),
+            Node::new(NodeKind::Var, 7, 2),
+        ];
+        assert!(rt; walk.check_scopes(&[7], &listing) == Ok(()));
+        assert!(rt; walk.check_scopes(&[8], &listing) == Err(Refusal::OutOfScope(1)));
+        Ok(())
     }
-}
-
-/// Takes the next term owed, and makes its scope the path's; false where none is owed.
-fn enter(owed: &mut Vec<Owed>, path: &mut Vec<u16>) -> bool
-    requires falling { Falling (length path.old.items) (reverse owed.old.items) }
-    requires room { vec_len path.old < vec_capacity path.old }
-    ensures scopes { Entered result path.old.items (reverse owed.old.items) path.new.items (reverse owed.new.items) }
-    ensures lens { (vec_len owed.new ≤ vec_len owed.old) × (vec_len path.new ≤ vec_len path.old + 1) }
-    ensures capacities { (vec_capacity owed.new ≡ vec_capacity owed.old) × (vec_capacity path.new ≡ vec_capacity path.old) }
-{
-    let Some(next) = owed.pop() else {
-        return false;
-    };
-    path.truncate(next.depth);
-    match next.binder {
-        Some(name) => {
-            path.push_reserved(name);
-            true
-        }
-        None => true,
-    }
-}
-
-/// Every variable is in scope.
-pub fn check_scopes(
-    owed: &mut Vec<Owed>,
-    path: &mut Vec<u16>,
-    names: &[u16],
-    listing: &[Node],
-) -> Result<(), Refusal>
-    requires few { length listing.now ≤ most_records }
-    requires owing { most_owed ≤ vec_capacity owed.old }
-    requires room { most_records ≤ vec_capacity path.old }
-    ensures scoped { result ≡ scoped 0 (names.now ∷ []) listing.now }
-    ensures capacities { (vec_capacity owed.new ≡ vec_capacity owed.old) × (vec_capacity path.new ≡ vec_capacity path.old) }
-{
-    owed.clear();
-    path.clear();
-    owe(owed, 0, None);
-    for (place, node) in listing.iter().enumerate() {
-        if !enter(owed, path) {
-            return Ok(());
-        }
-        let Some(found) = label_of(node) else {
-            return Err(Refusal::OutOfScope(place));
-        };
-        if !is_in_scope(found, path, names) {
-            return Err(Refusal::OutOfScope(place));
-        }
-        owe_children(owed, path.len(), found);
-    }
-    Ok(())
 }

@@ -2,6 +2,7 @@
 use Rattle.std.proofs.Common.{◌≡◌, ℕ, suc, ◌-◌, ◌<◌, List, [], ◌∷◌, ◌++◌, map, reverse, length, get_or, sym, refl, ap, ◌∙◌, subst, ap₂, ⊎_elim, arith}
 use Rattle.std.proofs.lemmas.List.{length-reverse, get_or-reverse}
 use Rattle.std.proofs.lemmas.Bool.{eq-eqb, ne_eqb, cases_eq}
+use Rattle.std.specs.List.{AllByRecursion}
 use Rattle.semantics.specs.Terms.{Term, binop, eq, app, lam, let_in, if_then}
 use Rattle.reading.specs.declared.reader.Tree.{Tree}
 use Rattle.reading.specs.declared.reader.Tree.TheVariants.{Num, Truth, Var, Binop, Eq, App, Lam, Let, If}
@@ -15,15 +16,14 @@ term_new t ns = rw (eq-eqb (length ns) (length ns) refl) refl
 pub term_old : (t : Tree) (ns : List Tree) (i : ℕ) → i < length ns → term (t ∷ ns) i ≡ term ns i
 term_old t ns i h = rw (ne_eqb i (length ns) (omega arith)) refl
 
--- So do several.
-pub terms_old : (t : Tree) (ns : List Tree) (s : List ℕ) → AllBelow (length ns) s → map (term (t ∷ ns)) s ≡ map (term ns) s
-terms_old t ns [] h = refl
-terms_old t ns (x ∷ s) h = ap₂ ◌∷◌ (term_old t ns x h.0) (terms_old t ns s h.1)
+-- What holds of each item may be weakened, and functions that agree on each map a list alike.
+pub each_weaker : {A : Type 0} (P Q : A → Type 0) → ((x : A) → P x → Q x) → (xs : List A) → AllByRecursion P xs → AllByRecursion Q xs
+each_weaker P Q f [] h = tt
+each_weaker P Q f (x ∷ xs) h = (f x h.0, each_weaker P Q f xs h.1)
 
--- What lies below a number lies below the next.
-pub all_below_more : (n : ℕ) (s : List ℕ) → AllBelow n s → AllBelow (suc n) s
-all_below_more n [] h = tt
-all_below_more n (x ∷ s) h = (omega (arith, h.0), all_below_more n s h.1)
+pub map_alike : {A B : Type 0} (f g : A → B) (P : A → Type 0) → ((x : A) → P x → f x ≡ g x) → (xs : List A) → AllByRecursion P xs → map f xs ≡ map g xs
+map_alike f g P e [] h = refl
+map_alike f g P e (x ∷ xs) h = ap₂ ◌∷◌ (e x h.0) (map_alike f g P e xs h.1)
 
 -- Children that are older stay so.
 below_more : (n : ℕ) (t : Tree) → Below n t → Below (suc n) t

@@ -1,6 +1,6 @@
 -- One instruction over an arena does what it does over terms.
 use Rattle.std.proofs.Common.{◌≡◌, ℕ, suc, ◌+◌, ◌-◌, ◌<◌, Bool, true, false, cond, ltb, List, [], ◌∷◌, map, length, Some, None, Option, sym, refl, ap, ◌∙◌, ap₂, add-one, arith}
-use Rattle.std.specs.List.{slice_get}
+use Rattle.std.specs.List.{AllByRecursion}
 use Rattle.semantics.specs.declared.layout.Instruction.{Instruction}
 use Rattle.semantics.specs.declared.layout.Instruction.TheVariants.{End, PushNum, PushTruth, Access, PushClosure, PushThunk, Operate, Compare, Bind, Unbind, Apply, Return, Choose}
 use Rattle.semantics.specs.Terms.{Term, var, binop, eq, app}
@@ -10,10 +10,11 @@ use Rattle.reading.specs.declared.reader.Tree.{Tree}
 use Rattle.reading.specs.declared.reader.Tree.TheVariants as T
 use Rattle.reading.specs.declared.reader.Mark.{Mark}
 use Rattle.reading.specs.declared.reader.Mark.TheVariants as M
-use Rattle.reading.specs.Reading.{on_two, finished, attempt}
+use Rattle.semantics.specs.PartialReading.{on_two, with_term, finished}
+use Rattle.reading.specs.Reading.{attempt}
 use Rattle.reading.specs.Arena.{over, term, Below, Falls, AllBelow}
 use Rattle.reading.specs.Workspace.{Workspace, workspace, put, of_two, performed, is_end}
-use Rattle.reading.proofs.Arena.{term_new, term_old, terms_old, all_below_more}
+use Rattle.reading.proofs.Arena.{term_new, term_old, each_weaker, map_alike}
 
 -- A mark, given what nodes stand for.
 abbrev pub mark_of : (ℕ → Term) → Mark → S.Mark
@@ -28,8 +29,7 @@ MarkBelow n M.Thunk = Unit {0}
 MarkBelow n (M.Let x a) = a < n
 
 abbrev pub MarksBelow : ℕ → List Mark → Type 0
-MarksBelow n [] = Unit {0}
-MarksBelow n (m ∷ ms) = MarkBelow n m × MarksBelow n ms
+MarksBelow n ms = AllByRecursion (MarkBelow n) ms
 
 -- The marks and the terms that a workspace stands for.
 abbrev pub marks_of : Workspace → List S.Mark
@@ -55,22 +55,14 @@ mark_old t ns (M.Lambda x) h = refl
 mark_old t ns M.Thunk h = refl
 mark_old t ns (M.Let x a) h = ap (S.in_let x) (term_old t ns a h)
 
-marks_old : (t : Tree) (ns : List Tree) (ms : List Mark) → MarksBelow (length ns) ms → map (mark_of (term (t ∷ ns))) ms ≡ map (mark_of (term ns)) ms
-marks_old t ns [] h = refl
-marks_old t ns (m ∷ ms) h = ap₂ ◌∷◌ (mark_old t ns m h.0) (marks_old t ns ms h.1)
-
 mark_below_more : (n : ℕ) (m : Mark) → MarkBelow n m → MarkBelow (suc n) m
 mark_below_more n (M.Lambda x) h = tt
 mark_below_more n M.Thunk h = tt
 mark_below_more n (M.Let x a) h = omega arith
 
-marks_below_more : (n : ℕ) (ms : List Mark) → MarksBelow n ms → MarksBelow (suc n) ms
-marks_below_more n [] h = tt
-marks_below_more n (m ∷ ms) h = (mark_below_more n m h.0, marks_below_more n ms h.1)
-
 -- What reading over terms does with an instruction, where over an arena it does not fit, or leads to a workspace. END ends it.
 abbrev pub Follows : ℕ → Instruction → Workspace → Bool → Option Workspace → Type 0
-Follows k i w true o = (o ≡ None) × ((c : List Instruction) → tries (i ∷ c) k w ≡ finished c (marks_of w) (terms_of w))
+Follows k i w true o = (o ≡ None) × ((c : List Instruction) → tries (i ∷ c) k w ≡ finished None c (marks_of w) (terms_of w))
 Follows k i w false None = (c : List Instruction) → tries (i ∷ c) k w ≡ None
 Follows k i w false (Some w') = Sound k w' × ((c : List Instruction) → tries (i ∷ c) k w ≡ tries c k w')
 
@@ -79,9 +71,9 @@ put_follows : (k : ℕ) (t : Tree) (ns : List Tree) (s : List ℕ) (ms : List Ma
     Sound k (workspace (t ∷ ns) (length ns ∷ s) ms h)
     × ((c : List Instruction) → attempt c k (map (mark_of (term ns)) ms) (over (term ns) t ∷ map (term ns) s) ≡ tries c k (workspace (t ∷ ns) (length ns ∷ s) ms h))
 put_follows k t ns s ms h low ok =
-    let older : map (mark_of (term ns)) ms ≡ map (mark_of (term (t ∷ ns))) ms = sym (marks_old t ns ms ok.marks) in (
-      record { falls = (low, ok.falls); stack = (omega arith, all_below_more (length ns) s ok.stack); marks = marks_below_more (length ns) ms ok.marks; scope = ok.scope ∙ ap (S.holding k) older },
-      λ c. ap₂ (attempt c k) older (ap₂ ◌∷◌ (sym (term_new t ns)) (sym (terms_old t ns s ok.stack))),
+    let older : map (mark_of (term ns)) ms ≡ map (mark_of (term (t ∷ ns))) ms = sym (map_alike _ _ (MarkBelow (length ns)) (mark_old t ns) ms ok.marks) in (
+      record { falls = (low, ok.falls); stack = (omega arith, each_weaker (λ x. x < length ns) (λ x. x < suc (length ns)) (λ x h. omega arith) s ok.stack); marks = each_weaker (MarkBelow (length ns)) (MarkBelow (suc (length ns))) (mark_below_more (length ns)) ms ok.marks; scope = ok.scope ∙ ap (S.holding k) older },
+      λ c. ap₂ (attempt c k) older (ap₂ ◌∷◌ (sym (term_new t ns)) (sym (map_alike _ _ (λ x. x < length ns) (term_old t ns) s ok.stack))),
     )
 
 -- Other nodes of the arena on the stack keep a workspace sound.
@@ -93,7 +85,7 @@ two_follows : (k : ℕ) (i : Instruction) (f : ℕ → ℕ → Tree) (g : Term �
     ((c : List Instruction) (ms : List S.Mark) (s : List Term) → attempt (i ∷ c) k ms s ≡ on_two s (λ l r s'. attempt c k ms (g l r ∷ s'))) →
     ((h : ℕ → Term) (l r : ℕ) → over h (f l r) ≡ g (h l) (h r)) → ((n l r : ℕ) → l < n → r < n → Below n (f l r)) →
     (ns : List Tree) (s : List ℕ) (ms : List Mark) (h : ℕ) → Sound k (workspace ns s ms h) →
-    Follows k i (workspace ns s ms h) false (of_two f (slice_get s 0) (slice_get s 1) (workspace ns s ms h))
+    Follows k i (workspace ns s ms h) false (of_two f s (workspace ns s ms h))
 two_follows k i f g reads is low ns [] ms h ok = λ c. reads c _ _
 two_follows k i f g reads is low ns (r ∷ []) ms h ok = λ c. reads c _ _
 two_follows k i f g reads is low ns (r ∷ l ∷ s) ms h ok =
@@ -102,17 +94,17 @@ two_follows k i f g reads is low ns (r ∷ l ∷ s) ms h ok =
 
 -- ACCESS pushes a variable, where it is in scope.
 access_follows : (k x i : ℕ) (ns : List Tree) (s : List ℕ) (ms : List Mark) (h : ℕ) (b : Bool) → ltb i h ≡ b → Sound k (workspace ns s ms h) →
-    Follows k (Access x i) (workspace ns s ms h) false (cond b (Some (put 0 (T.Var x (i + 1)) (workspace ns s ms h))) None)
+    Follows k (Access x i) (workspace ns s ms h) false (cond b (Some (put (T.Var x (i + 1)) (workspace ns s ms h))) None)
 access_follows k x i ns s ms h true e ok =
     let put = put_follows k (T.Var x (i + 1)) ns s ms h (omega arith) ok in
     let w = workspace ns s ms h in (
       put.0,
-      λ c. ap (λ b. cond b (attempt c k (marks_of w) (var x i ∷ terms_of w)) None) (ap (ltb i) (sym ok.scope) ∙ e)
+      λ c. ap (λ b. with_term (cond b (Some (var x i)) None) (λ t. attempt c k (marks_of w) (t ∷ terms_of w))) (ap (ltb i) (sym ok.scope) ∙ e)
           ∙ ap (λ n. attempt c k (marks_of w) (var x (index_back n) ∷ terms_of w)) (sym (add-one i)) ∙ put.1 c,
     )
 access_follows k x i ns s ms h false e ok =
     let w = workspace ns s ms h in
-    λ c. ap (λ b. cond b (attempt c k (marks_of w) (var x i ∷ terms_of w)) None) (ap (ltb i) (sym ok.scope) ∙ e)
+    λ c. ap (λ b. with_term (cond b (Some (var x i)) None) (λ t. attempt c k (marks_of w) (t ∷ terms_of w))) (ap (ltb i) (sym ok.scope) ∙ e)
 
 -- An instruction over an arena does what it does over terms.
 pub step_follows : (k : ℕ) (i : Instruction) (ns : List Tree) (s : List ℕ) (ms : List Mark) (h : ℕ) → Sound k (workspace ns s ms h) →

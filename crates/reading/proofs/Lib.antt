@@ -3,8 +3,5 @@ pub mod Arena
 pub mod Written
 pub mod Following
 pub mod Reading
-pub mod Translations
-pub mod Shown
-pub mod Places
+pub mod Growth
 pub mod Turns
-pub mod GiveBack

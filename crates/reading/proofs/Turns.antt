@@ -1,31 +1,52 @@
 -- The reader's loop, turn by turn.
-use Rattle.std.proofs.Common.{◌≡◌, ℕ, ◌+◌, ◌-◌, ◌<◌, ◌≤◌, Bool, List, [], ◌∷◌, length, get_or, take, drop, Some, None, Option, sym, refl, ap, ◌∙◌, arith}
-use Rattle.std.proofs.lemmas.List.{drop_more, drop_all}
+use Rattle.std.proofs.Common.{◌≡◌, ℕ, ◌+◌, ◌<◌, ◌≤◌, ◌↔◌, true, false, IsTrue, List, [], ◌∷◌, ◌++◌, reverse, length, get_or, take, drop, Some, None, Option, sym, refl, ap, ◌∙◌, subst}
+use Rattle.std.proofs.lemmas.List.{take-append-drop, take_more, take_all}
+use Rattle.std.specs.Option.{option_and_then, option_map}
 use Rattle.semantics.specs.declared.layout.Instruction.{Instruction}
 use Rattle.semantics.specs.declared.layout.Instruction.TheVariants.{End}
+use Rattle.reading.specs.declared.reader.Mark.{Mark}
+use Rattle.reading.specs.Arena.{term, InArena}
 use Rattle.reading.specs.Reading.{attempt}
-use Rattle.reading.specs.Workspace.{Workspace, performed, after, answered, run, blank}
-use Rattle.reading.proofs.Reading.{read_off, reads_whole}
+use Rattle.reading.specs.Workspace.{Workspace, performed, run, blank, sole, root}
+use Rattle.reading.proofs.Ends.{none_left}
+use Rattle.reading.proofs.Reading.{read_off, reads_whole, root_in_arena}
 
--- What is left to run is the step's answer, and then what is left after it.
-pub turn : (xs : List Instruction) (i : ℕ) (w w' : Workspace) (b answer : Bool) (o : Option Workspace) → i < length xs → answered b w' ≡ performed (get_or xs i End) w → b ≡ answer →
-    o ≡ run (drop i xs) w → o ≡ after (answered answer w') (λ w. run (drop (i + 1) xs) w)
-turn xs i w w' b answer o h e is q =
-    q ∙ ap (λ c. run c w) (drop_more xs i End h) ∙ ap (λ o. after o (λ w. run (drop (i + 1) xs) w)) (sym e ∙ ap (λ b. answered b w') is)
+-- To run two codes one after the other is to run the second from where the first leads.
+run-append : (c d : List Instruction) (w : Workspace) → run (c ++ d) w ≡ option_and_then (run d) (run c w)
+run-append [] d w = refl
+run-append (i ∷ c) d w =
+    elim (performed i w) as (λ o. option_and_then (run (c ++ d)) o ≡ option_and_then (run d) (option_and_then (run c) o)) [ None ↦ refl | Some w' ↦ run-append c d w' ]
 
--- At the end nothing is left to run.
-pub last_turn : (xs : List Instruction) (i : ℕ) (w : Workspace) (o : Option Workspace) → length xs ≤ i → o ≡ run (drop i xs) w → o ≡ Some w
-last_turn xs i w o h q = q ∙ ap (λ c. run c w) (drop_all i xs h)
+-- One instruction more is run from where those before it lead.
+pub turn : (xs : List Instruction) (n : ℕ) (start w : Workspace) → n < length xs → run (take n xs) start ≡ Some w → run (take (n + 1) xs) start ≡ performed (get_or xs n End) w
+turn xs n start w h e =
+    ap (λ c. run c start) (take_more xs n End h) ∙ run-append (take n xs) (get_or xs n End ∷ []) start ∙ ap (option_and_then (run (get_or xs n End ∷ []))) e
+    ∙ elim (performed (get_or xs n End) w) as (λ o. option_and_then Some o ≡ o) [ None ↦ refl | Some w' ↦ refl ]
 
--- A code cut before its last instruction is read by running the front.
-pub reads_cut : (code front back : List Instruction) (k : ℕ) (o : Option Workspace) → 0 < length code → front ≡ take (length code - 1) code → get_or back 0 End ≡ get_or code (length code - 1 + 0) End → run front (blank k) ≡ o →
-    attempt code k [] [] ≡ read_off (get_or back 0 End) o
-reads_cut code front back k o some f b e =
-    let z : length code - 1 + 0 ≡ length code - 1 = omega arith in
-    reads_whole code k some ∙ ap (λ l. read_off l (run (take (length code - 1) code) (blank k))) (sym (b ∙ ap (λ n. get_or code n End) z))
-    ∙ ap (λ c. read_off (get_or back 0 End) (run c (blank k))) (sym f) ∙ ap (read_off (get_or back 0 End)) e
+-- Where some of the instructions do not fit, all do not.
+stuck : (xs : List Instruction) (n : ℕ) (start : Workspace) → run (take n xs) start ≡ None → run xs start ≡ None
+stuck xs n start e =
+    ap (λ c. run c start) (sym (take-append-drop n xs)) ∙ run-append (take n xs) (drop n xs) start ∙ ap (option_and_then (run (drop n xs))) e
 
--- No code is no term's.
-pub reads_nothing : (code : List Instruction) (k : ℕ) → length code ≡ 0 → attempt code k [] [] ≡ None
-reads_nothing [] k h = refl
-reads_nothing (i ∷ c) k h = absurd (omega (arith, h))
+-- Where something is open, no node is left alone.
+nowhere : (s : List ℕ) (ms : List Mark) → (ms ≡ [] → IsTrue false) → sole s ms ≡ None
+nowhere s [] h = let no : false ≡ true = h refl in cc
+nowhere [] (m ∷ ms) h = refl
+nowhere (r ∷ []) (m ∷ ms) h = refl
+nowhere (r ∷ l ∷ s) (m ∷ ms) h = refl
+
+pub open_not_sole : (s : List ℕ) (ms : List Mark) → (IsTrue false ↔ (ms ≡ [])) → sole s (reverse ms) ≡ None
+open_not_sole s ms h = nowhere s (reverse ms) (λ e. h.1 (none_left ms e))
+
+-- Where the front of a code does not fit, there is no term.
+pub unread : (code front : List Instruction) (last : Instruction) (k n : ℕ) → code ≡ front ++ last ∷ [] → run (take n front) (blank k) ≡ None → attempt code k [] [] ≡ None
+unread code front last k n cut e = reads_whole code front last k cut ∙ ap (read_off last) (stuck front n (blank k) e)
+
+-- Where all of the front fits, the term is at the root that is left, and the root is in the arena.
+pub read_out : (code front : List Instruction) (last : Instruction) (k n : ℕ) (w : Workspace) (o : Option ℕ) → code ≡ front ++ last ∷ [] → length front ≤ n →
+    run (take n front) (blank k) ≡ Some w → o ≡ root last w → (attempt code k [] [] ≡ option_map (term w.nodes) o) × InArena w.nodes o
+read_out code front last k n w o cut h e is =
+    let all : run front (blank k) ≡ Some w = ap (λ c. run c (blank k)) (sym (take_all n front h)) ∙ e in (
+      reads_whole code front last k cut ∙ ap (read_off last) all ∙ ap (option_map (term w.nodes)) (sym is),
+      subst (InArena w.nodes) (sym is) (root_in_arena k front last w all),
+    )

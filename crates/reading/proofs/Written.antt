@@ -1,15 +1,12 @@
 -- Records in prefix order.
-use Rattle.std.proofs.Common.{◌≡◌, ℕ, zero, suc, ◌+◌, ◌≤◌, true, false, List, [], ◌∷◌, ◌++◌, length, sym, refl, ap, ◌∙◌, ap₂, arith}
-use Rattle.std.proofs.lemmas.List.{append_assoc, append-nil, length-append}
-use Rattle.std.proofs.lemmas.Bool.{le-leb, lt-leb}
-use Rattle.semantics.proofs.Clash.{clash}
+use Rattle.std.proofs.Common.{◌≡◌, ℕ, zero, suc, ◌+◌, ◌<◌, ◌≤◌, List, [], ◌∷◌, ◌++◌, length, sym, refl, ap, ◌∙◌, ap₂, arith}
+use Rattle.std.proofs.lemmas.List.{append_assoc, length-append}
 use Rattle.semantics.specs.declared.layout.Node.{Node}
 use Rattle.semantics.specs.Terms.{Term, num, truth, var, binop, eq, app, lam, let_in, if_then}
 use Rattle.semantics.specs.Listing.{listing_before}
 use Rattle.reading.specs.declared.reader.Tree.{Tree}
 use Rattle.reading.specs.declared.reader.Tree.TheVariants.{Num, Truth, Var, Binop, Eq, App, Lam, Let, If}
 use Rattle.reading.specs.Arena.{over, Below, own_record, children, listings}
-use Rattle.reading.specs.Written.{Wrote}
 
 -- The listing of a node is its own record and then its children's listings.
 own_record_first : (f : ℕ → Term) (n : ℕ) (t : Tree) (s : List ℕ) → Below n t → listing_before (over f t) (listings f s) ≡ own_record t ∷ listings f (children t ++ s)
@@ -54,14 +51,6 @@ listings_longer f [] = omega arith
 listings_longer f (i ∷ s) = omega (arith, listings_longer f s, listing_longer (f i) (listings f s))
 
 -- Where as many nodes wait as there is room for, the listings do not fit.
-pub no_room_left : (f : ℕ → Term) (i l : ℕ) (a b : List Node) (w w' : List ℕ) (x : List Node) → b ++ listings f w ≡ a ++ x → w ≡ i ∷ w' → l ≤ length b + length w' → Wrote x a b l false
-no_room_left f i l a b w w' x inv top h = record {
-  fits = sym (lt-leb _ _ (omega (arith, length-append b (listings f w), length-append a x, ap length inv, ap (λ s. length (listings f s)) top, listing_longer (f i) (listings f w'), listings_longer f w')));
-  added = λ t. clash cc;
-}
-
--- Where nothing waits, all is written.
-pub all_written : (f : ℕ → Term) (l : ℕ) (a b : List Node) (w : List ℕ) (x : List Node) → b ++ listings f w ≡ a ++ x → w ≡ [] → length b ≤ l → Wrote x a b l true
-all_written f l a b w x inv none h =
-    let e : b ≡ a ++ x = sym (append-nil b) ∙ ap (λ s. b ++ listings f s) (sym none) ∙ inv in
-    record { fits = sym (le-leb _ _ (omega (arith, ap length e, length-append a x))); added = λ _. e }
+pub no_room_left : (f : ℕ → Term) (i l : ℕ) (a b : List Node) (w w' : List ℕ) (x : List Node) → b ++ listings f w ≡ a ++ x → w ≡ i ∷ w' → l ≤ length b + length w' → l < length a + length x
+no_room_left f i l a b w w' x inv top h =
+    omega (arith, length-append b (listings f w), length-append a x, ap length inv, ap (λ s. length (listings f s)) top, listing_longer (f i) (listings f w'), listings_longer f w')

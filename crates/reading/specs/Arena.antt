@@ -1,5 +1,6 @@
 -- The arena: what its nodes stand for. Nodes are newest first, and a node's place is the number of older ones.
 use Rattle.std.specs.Prelude.{ℕ, ◌<◌, cond, List, [], ◌∷◌, length, Some, None, Option, ◌==◌}
+use Rattle.std.specs.List.{AllByRecursion}
 use Rattle.semantics.specs.declared.layout.Node.{Node}
 use Rattle.semantics.specs.declared.layout.Label.TheVariants as L
 use Rattle.semantics.specs.Terms.{Term, num, truth, var, binop, eq, app, lam, let_in, if_then}
@@ -44,8 +45,7 @@ Falls (t ∷ older) = Below (length older) t × Falls older
 
 -- Every number of a list is below n.
 abbrev pub AllBelow : ℕ → List ℕ → Type 0
-AllBelow n [] = Unit {0}
-AllBelow n (x ∷ s) = (x < n) × AllBelow n s
+AllBelow n s = AllByRecursion (λ x. x < n) s
 
 -- A place that was answered is one of the arena's.
 abbrev pub InArena : List Tree → Option ℕ → Type 0

@@ -1,8 +1,9 @@
 -- Reading over an arena: one instruction after the other, and the root that is left.
-use Rattle.std.specs.Prelude.{ℕ, ◌+◌, ◌-◌, Bool, true, false, cond, List, [], ◌∷◌, reverse, length, drop, Some, None, vec_items, Option, nat_lt}
-use Rattle.std.specs.List.{slice_get}
+use Rattle.std.specs.Prelude.{ℕ, ◌+◌, ◌-◌, ◌<◌, Bool, true, false, cond, List, [], ◌∷◌, reverse, length, Some, None, Option, nat_lt}
+use Rattle.std.specs.Option.{option_and_then}
 use Rattle.semantics.specs.declared.layout.Instruction.{Instruction}
 use Rattle.semantics.specs.declared.layout.Instruction.TheVariants.{End, PushNum, PushTruth, Access, PushClosure, PushThunk, Operate, Compare, Bind, Unbind, Apply, Return, Choose}
+use Rattle.semantics.specs.Sizes.{most_instructions, most_names}
 use Rattle.reading.specs.declared.reader.Reader.{Reader}
 use Rattle.reading.specs.declared.reader.Tree.{Tree}
 use Rattle.reading.specs.declared.reader.Tree.TheVariants as T
@@ -23,115 +24,87 @@ workspace ns s ms h = record { nodes = ns; stack = s; marks = ms; scope = h }
 
 -- The workspace that a reader's vectors hold, newest last.
 abbrev pub workspace_of : Reader → Workspace
-workspace_of r = workspace (reverse (vec_items r.nodes)) (reverse (vec_items r.stack)) (reverse (vec_items r.marks)) r.scope
+workspace_of r = workspace (reverse r.nodes) (reverse r.stack) (reverse r.marks) r.scope
+
+-- A reader has room for what one instruction adds.
+abbrev pub HasRoom : Reader → Type 0
+HasRoom r =
+    (length r.nodes < most_instructions) × (length r.stack < most_instructions) × (length r.marks < most_instructions)
+    × (r.scope < most_names + most_instructions)
 
 -- Nothing read yet, and k inputs in scope.
 abbrev pub blank : ℕ → Workspace
 blank k = workspace [] [] [] k
 
--- A new node in place of the topmost few.
-abbrev pub put : ℕ → Tree → Workspace → Workspace
-put pops t w = workspace (t ∷ w.nodes) (length w.nodes ∷ drop pops w.stack) w.marks w.scope
+-- A new node on top of the nodes not yet used.
+abbrev pub put : Tree → Workspace → Workspace
+put t w = workspace (t ∷ w.nodes) (length w.nodes ∷ w.stack) w.marks w.scope
 
--- Takes some nodes off and opens a mark, with so many in scope.
-abbrev pub opened : ℕ → Mark → ℕ → Workspace → Workspace
-opened pops m h w = workspace w.nodes (drop pops w.stack) (m ∷ w.marks) h
+-- A new mark, with so many in scope.
+abbrev pub opened : Mark → ℕ → Workspace → Workspace
+opened m h w = workspace w.nodes w.stack (m ∷ w.marks) h
 
--- Closes the mark last opened.
-abbrev pub closed : ℕ → Workspace → Workspace
-closed h w = workspace w.nodes w.stack (drop 1 w.marks) h
+-- A node of the two or three on top, the topmost last: None where there are too few.
+abbrev pub of_two : (ℕ → ℕ → Tree) → List ℕ → Workspace → Option Workspace
+of_two f (r ∷ l ∷ s) w = Some (put (f l r) (workspace w.nodes s w.marks w.scope))
+of_two f _ w = None
 
--- A node of the two or three on top, the topmost first: None where there are too few.
-abbrev pub of_two : (ℕ → ℕ → Tree) → Option ℕ → Option ℕ → Workspace → Option Workspace
-of_two f None b w = None
-of_two f (Some r) None w = None
-of_two f (Some r) (Some l) w = Some (put 2 (f l r) w)
-
-abbrev pub of_three : Option ℕ → Option ℕ → Option ℕ → Workspace → Option Workspace
-of_three None b c w = None
-of_three (Some q) None c w = None
-of_three (Some q) (Some e) None w = None
-of_three (Some q) (Some e) (Some t) w = Some (put 3 (T.If q t e) w)
+abbrev pub of_three : List ℕ → Workspace → Option Workspace
+of_three (q ∷ e ∷ t ∷ s) w = Some (put (T.If q t e) (workspace w.nodes s w.marks w.scope))
+of_three _ w = None
 
 -- LET takes what it binds off and opens its body.
-abbrev pub let_opened : ℕ → Option ℕ → Workspace → Option Workspace
-let_opened x None w = None
-let_opened x (Some a) w = Some (opened 1 (M.Let x a) (w.scope + 1) w)
+abbrev pub let_opened : ℕ → List ℕ → Workspace → Option Workspace
+let_opened x (a ∷ s) w = Some (opened (M.Let x a) (w.scope + 1) (workspace w.nodes s w.marks w.scope))
+let_opened x [] w = None
 
 -- ENDLET makes a node of the Let that is open and of the body on top.
-abbrev pub let_closed : Option ℕ → Option Mark → Workspace → Option Workspace
-let_closed None m w = None
-let_closed (Some b) None w = None
-let_closed (Some b) (Some (M.Lambda x)) w = None
-let_closed (Some b) (Some M.Thunk) w = None
-let_closed (Some b) (Some (M.Let x a)) w = Some (put 1 (T.Let x a b) (closed (w.scope - 1) w))
+abbrev pub let_closed : List ℕ → List Mark → Workspace → Option Workspace
+let_closed (b ∷ s) (M.Let x a ∷ ms) w = Some (put (T.Let x a b) (workspace w.nodes s ms (w.scope - 1)))
+let_closed _ _ w = None
 
 -- RETURN closes a body: a Lambda's becomes its node, a thunk's stays as it is.
-abbrev pub body_closed : Option ℕ → Option Mark → Workspace → Option Workspace
-body_closed None m w = None
-body_closed (Some b) None w = None
-body_closed (Some b) (Some (M.Lambda x)) w = Some (put 1 (T.Lam x b) (closed (w.scope - 1) w))
-body_closed (Some b) (Some M.Thunk) w = Some (closed w.scope w)
-body_closed (Some b) (Some (M.Let x a)) w = None
+abbrev pub body_closed : List ℕ → List Mark → Workspace → Option Workspace
+body_closed (b ∷ s) (M.Lambda x ∷ ms) w = Some (put (T.Lam x b) (workspace w.nodes s ms (w.scope - 1)))
+body_closed (b ∷ s) (M.Thunk ∷ ms) w = Some (workspace w.nodes (b ∷ s) ms w.scope)
+body_closed _ _ w = None
 
--- One instruction, given the three topmost nodes and the mark last opened. END is not for here.
-abbrev pub perform : Instruction → Option ℕ → Option ℕ → Option ℕ → Option Mark → Workspace → Option Workspace
-perform End a b c m w = None
-perform (PushNum n) a b c m w = Some (put 0 (T.Num n) w)
-perform (PushTruth n) a b c m w = Some (put 0 (T.Truth n) w)
-perform (Access x i) a b c m w = cond (nat_lt i w.scope) (Some (put 0 (T.Var x (i + 1)) w)) None
-perform (PushClosure x n) a b c m w = Some (opened 0 (M.Lambda x) (w.scope + 1) w)
-perform (PushThunk n) a b c m w = Some (opened 0 M.Thunk w.scope w)
-perform (Operate o p) a b c m w = of_two (T.Binop o) a b w
-perform (Compare p) a b c m w = of_two T.Eq a b w
-perform (Bind x) a b c m w = let_opened x a w
-perform Unbind a b c m w = let_closed a m w
-perform (Apply p) a b c m w = of_two T.App a b w
-perform Return a b c m w = body_closed a m w
-perform (Choose p) a b c m w = of_three a b c w
-
--- One instruction.
+-- One instruction: None where it does not fit. END is not for here.
 abbrev pub performed : Instruction → Workspace → Option Workspace
-performed i w = perform i (slice_get w.stack 0) (slice_get w.stack 1) (slice_get w.stack 2) (slice_get w.marks 0) w
-
--- Go on with what is there.
-abbrev pub after : {A B : Type 0} → Option A → (A → Option B) → Option B
-after None f = None
-after (Some x) f = f x
+performed End w = None
+performed (PushNum n) w = Some (put (T.Num n) w)
+performed (PushTruth b) w = Some (put (T.Truth b) w)
+performed (Access x i) w = cond (nat_lt i w.scope) (Some (put (T.Var x (i + 1)) w)) None
+performed (PushClosure x n) w = Some (opened (M.Lambda x) (w.scope + 1) w)
+performed (PushThunk n) w = Some (opened M.Thunk w.scope w)
+performed (Operate o p) w = of_two (T.Binop o) w.stack w
+performed (Compare p) w = of_two T.Eq w.stack w
+performed (Bind x) w = let_opened x w.stack w
+performed Unbind w = let_closed w.stack w.marks w
+performed (Apply p) w = of_two T.App w.stack w
+performed Return w = body_closed w.stack w.marks w
+performed (Choose p) w = of_three w.stack w
 
 -- Instructions one after the other.
 abbrev pub run : List Instruction → Workspace → Option Workspace
 run [] w = Some w
-run (i ∷ c) w = after (performed i w) (λ w'. run c w')
+run (i ∷ c) w = option_and_then (λ w'. run c w') (performed i w)
 
--- A step's answer: the workspace after it, or that it does not fit.
-abbrev pub answered : Bool → Workspace → Option Workspace
-answered true w = Some w
-answered false w = None
+-- What a step answers: the workspace after it, or that the instruction does not fit.
+abbrev pub answered : {A : Type 0} → Option A → Workspace → Option Workspace
+answered (Some u) w = Some w
+answered None w = None
 
 -- Whether an instruction is END.
 abbrev pub is_end : Instruction → Bool
 is_end End = true
-is_end (PushNum n) = false
-is_end (PushTruth b) = false
-is_end (Access x i) = false
-is_end (PushClosure x n) = false
-is_end (PushThunk n) = false
-is_end (Operate o p) = false
-is_end (Compare p) = false
-is_end (Bind x) = false
-is_end Unbind = false
-is_end (Apply p) = false
-is_end Return = false
-is_end (Choose p) = false
+is_end _ = false
 
 -- The only node left, where nothing is open.
-abbrev pub sole : Option ℕ → Option ℕ → Option Mark → Option ℕ
-sole None b m = None
-sole (Some r) None None = Some r
-sole (Some r) None (Some m) = None
-sole (Some r) (Some l) m = None
+abbrev pub sole : List ℕ → List Mark → Option ℕ
+sole (r ∷ []) [] = Some r
+sole _ _ = None
 
 -- The root of what was read, when END comes last.
 abbrev pub root : Instruction → Workspace → Option ℕ
-root last w = cond (is_end last) (sole (slice_get w.stack 0) (slice_get w.stack 1) (slice_get w.marks 0)) None
+root last w = cond (is_end last) (sole w.stack w.marks) None

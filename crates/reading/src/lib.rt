@@ -6,3 +6,6 @@ pub mod write;
 
 /// The most records that are written for a caller.
 pub const MOST_WRITTEN: usize = 4_096;
+
+/// The most trees that wait to be written: one for each record, and the children of one tree.
+pub const MOST_WORK: usize = MOST_WRITTEN + 3;

@@ -4,15 +4,16 @@ pub mod new;
 pub mod read;
 pub mod step;
 
-ghost use Rattle.std.specs.Prelude.{◌+◌, ◌≤◌, vec_capacity};
-ghost use Rattle.semantics.specs.Sizes.{most_instructions};
-ghost use Rattle.reading.specs.Written.{most_written};
-
+use crate::{MOST_WORK, MOST_WRITTEN};
+use bounded::BoundedVec;
 use domain::Op;
-use semantics::layout::Node;
+use semantics::layout::{MOST_INSTRUCTIONS, Node};
+use std::error::Error;
+use std::fmt;
 
-/// A node of the arena. Children are the places of older nodes in the arena; a variable's index is from 1.
-#[derive(Clone, Copy)]
+/// A node of the arena. Children are the places of older nodes in the arena, since nothing allocates while a code is read;
+/// a variable's index is from 1.
+#[derive(Clone, Copy, PartialEq, Eq)]
 pub enum Tree {
     Num(u64),
     Truth(bool),
@@ -50,7 +51,7 @@ pub enum Tree {
 }
 
 /// What the reader has opened and not yet closed.
-#[derive(Clone, Copy)]
+#[derive(Clone, Copy, PartialEq, Eq)]
 pub enum Mark {
     Lambda { name: u16 },
     Thunk,
@@ -58,7 +59,7 @@ pub enum Mark {
 }
 
 /// Why code is not given back as a listing.
-#[derive(Clone, Copy)]
+#[derive(Clone, Copy, Debug, PartialEq, Eq)]
 pub enum Unread {
     /// There is no room for the listing.
     NoRoom,
@@ -66,17 +67,24 @@ pub enum Unread {
     NoTranslation,
 }
 
+impl fmt::Display for Unread {
+    fn fmt<W: fmt::Write>(&self, f: &mut fmt::Formatter<W>) -> fmt::Result {
+        f.write_str(match self {
+            Unread::NoRoom => "there is no room for the listing",
+            Unread::NoTranslation => "the code is no term's",
+        })
+    }
+}
+
+impl Error for Unread {}
+
 /// The scratch of a reader: an arena of trees, the trees not yet used, what is open, how many binders and inputs are in
-/// scope, and the records written. The ghost fields state the capacities.
+/// scope, and the records written.
 #[derive(Drop)]
 pub struct Reader {
-    pub nodes: Vec<Tree>,
-    pub stack: Vec<usize>,
-    pub marks: Vec<Mark>,
+    pub nodes: BoundedVec<Tree, MOST_INSTRUCTIONS>,
+    pub stack: BoundedVec<usize, MOST_WORK>,
+    pub marks: BoundedVec<Mark, MOST_INSTRUCTIONS>,
     pub scope: u64,
-    pub records: Vec<Node>,
-    ghost arena: { most_instructions ≤ vec_capacity nodes },
-    ghost work: { most_written + 3 ≤ vec_capacity stack },
-    ghost pending: { most_instructions ≤ vec_capacity marks },
-    ghost room: { most_written ≤ vec_capacity records },
+    pub records: BoundedVec<Node, MOST_WRITTEN>,
 }

@@ -13,7 +13,6 @@ use Rattle.semantics.specs.Running.{goes, ends, faults, Bounds, Halt, running, e
 use Rattle.semantics.specs.Machine.{Held, HeldEnv, Cell, val, State, at, step, no_room, held_inputs, start, machine_run, Steps, here, more}
 use Rattle.semantics.specs.Showing.{show_held, show_env}
 use Rattle.semantics.specs.Agreement.{NoOutcomeWithin, RoomFor, Verdict, is_ended, is_failed, is_halted, is_running, shown_status}
-use Rattle.semantics.proofs.Clash.{clash}
 use Rattle.semantics.proofs.ReadingBack.{read-emit}
 use Rattle.semantics.proofs.Simulation.{Fits, fits_number, fits_boolean, fits_function, FitsEnv, fits_none, fits_more, Reaches, gets, meets, simulates}
 use Rattle.semantics.proofs.Running.{busy, plus, same_report, plus_none, plus-more, run_ends, run-faults, run-busy}
@@ -118,14 +117,14 @@ module _ (𝓜 : Meaning) (L : Bounds) where
     halts_before : {o : Outcome} {j : ℕ} {r : Report State Held} → OnOutcome o j r → HaltsBefore j r
     halts_before (comes_halted {u = u'} l d hl R is') w u s is =
         let z : u ≡ u' = ap (λ (r : Report State Held). r.spent) (sym is ∙ is') in omega arith
-    halts_before (comes_value q f R is') w u s is = let y = ap (λ (r : Report State Held). r.status) (sym is ∙ is') in clash cc
-    halts_before (comes_fault q R is') w u s is = let y = ap (λ (r : Report State Held). r.status) (sym is ∙ is') in clash cc
+    halts_before (comes_value q f R is') w u s is = let y = ap (λ (r : Report State Held). r.status) (sym is ∙ is') in cc
+    halts_before (comes_fault q R is') w u s is = let y = ap (λ (r : Report State Held). r.status) (sym is ∙ is') in cc
 
     -- Such a run is not running.
     not_running : {o : Outcome} {j : ℕ} {r : Report State Held} → OnOutcome o j r → r.status ≡ running → ⊥
-    not_running (comes_halted l d hl R is') is = let y = ap (λ (r : Report State Held). r.status) is' in clash cc
-    not_running (comes_value q f R is') is = let y = ap (λ (r : Report State Held). r.status) is' in clash cc
-    not_running (comes_fault q R is') is = let y = ap (λ (r : Report State Held). r.status) is' in clash cc
+    not_running (comes_halted l d hl R is') is = let y = ap (λ (r : Report State Held). r.status) is' in cc
+    not_running (comes_value q f R is') is = let y = ap (λ (r : Report State Held). r.status) is' in cc
+    not_running (comes_fault q R is') is = let y = ap (λ (r : Report State Held). r.status) is' in cc
 
     -- Where a run has halted, no outcome came.
     none_when_halted : {w : Halt} {u N : ℕ} {s : State} → u < N → ran N ≡ reports (halted w) u s → NoOutcomeWithin 𝓜 cs t u

@@ -1,82 +1,58 @@
 -- What terms and values that show alike have in common.
-use Rattle.std.proofs.Common.{◌≡◌, ℕ, Bool, true, false, sym, refl, ap, ◌∙◌, subst, ap₂, true≢false}
+use Rattle.std.proofs.Common.{◌≡◌, ℕ, Bool, true, false, refl, ap, ◌∙◌, ap₂}
 use Rattle.domain.specs.declared.Fault.{Fault}
 use Rattle.domain.specs.Meaning.{Meaning}
 use Rattle.semantics.specs.Terms.{Term, num, truth, var, binop, eq, app, lam, let_in, if_then}
 use Rattle.semantics.specs.Values.{Value, number, boolean, function, Env, look, Outcome, yields, fails}
-use Rattle.semantics.specs.Evaluation.{Sort, sort_of, Computed, gives_number, gives_boolean, gives_fault, outcome_at, closing, branch, Evals, e_num, e_truth, e_var, e_lam}
+use Rattle.semantics.specs.Evaluation.{Sort, sort_of, Computed, gives_number, outcome_at, closing, branch, Evals, e_num, e_truth, e_var, e_lam}
 use Rattle.semantics.specs.Substitution.{fill, reify, reify_env, close, Observation, sees_value, sees_fault, observe}
-use Rattle.semantics.proofs.Clash.{clash}
+use Rattle.semantics.specs.Reduction.{IsValue, num_value, truth_value, lam_value}
 use Rattle.semantics.proofs.Substitution.{term_at-look}
 
 -- What a term looks like that shows as L: where L is no value, its parts show as L's parts.
 abbrev pub Peeled : Env → Term → Term → Type 0
-Peeled ρ (num c) t = Unit {0}
-Peeled ρ (truth b) t = Unit {0}
-Peeled ρ (var x i) t = Unit {0}
 Peeled ρ (binop o L R) t = (l r : Term) × (t ≡ binop o l r) × (L ≡ close ρ l) × (R ≡ close ρ r)
 Peeled ρ (eq L R) t = (l r : Term) × (t ≡ eq l r) × (L ≡ close ρ l) × (R ≡ close ρ r)
 Peeled ρ (app L R) t = (l r : Term) × (t ≡ app l r) × (L ≡ close ρ l) × (R ≡ close ρ r)
-Peeled ρ (lam x B) t = Unit {0}
 Peeled ρ (let_in x A B) t = (a b : Term) × (t ≡ let_in x a b) × (A ≡ close ρ a) × (B ≡ fill 1 (reify_env ρ) b)
 Peeled ρ (if_then C T E) t = (c u e : Term) × (t ≡ if_then c u e) × (C ≡ close ρ c) × (T ≡ close ρ u) × (E ≡ close ρ e)
+Peeled ρ L t = Unit {0}
 
 peeled_reify : (ρ : Env) (v : Value) (t : Term) → Peeled ρ (reify v) t
 peeled_reify ρ (number c) t = tt
-peeled_reify ρ (boolean b) t = tt
-peeled_reify ρ (function x b p ρ') t = tt
+peeled_reify ρ v t = tt
 
 peeled_self : (ρ : Env) (t : Term) → Peeled ρ (close ρ t) t
-peeled_self ρ (num c) = tt
-peeled_self ρ (truth b) = tt
-peeled_self ρ (var x i) = subst (λ s. Peeled ρ s (var x i)) (sym (term_at-look ρ i)) (peeled_reify ρ (look ρ i) (var x i))
+peeled_self ρ (var x i) = rw (term_at-look ρ i) (peeled_reify ρ (look ρ i) (var x i))
 peeled_self ρ (binop o l r) = (l, r, refl, refl, refl)
 peeled_self ρ (eq l r) = (l, r, refl, refl, refl)
 peeled_self ρ (app l r) = (l, r, refl, refl, refl)
-peeled_self ρ (lam x b) = tt
 peeled_self ρ (let_in x a b) = (a, b, refl, refl, refl)
 peeled_self ρ (if_then c t e) = (c, t, e, refl, refl, refl, refl)
+peeled_self ρ t = tt
 
 pub peel : (ρ : Env) (L t : Term) → L ≡ close ρ t → Peeled ρ L t
-peel ρ L t q = subst (λ s. Peeled ρ s t) (sym q) (peeled_self ρ t)
+peel ρ L t q = rw q (peeled_self ρ t)
 
--- A shown value is a Num, a Bool or a Lambda.
-abbrev Shut : Term → Bool
-Shut (num c) = true
-Shut (truth b) = true
-Shut (var x i) = false
-Shut (binop o l r) = false
-Shut (eq l r) = false
-Shut (app f a) = false
-Shut (lam x b) = true
-Shut (let_in x a b) = false
-Shut (if_then c t e) = false
-
-shut_reify : (v : Value) → Shut (reify v) ≡ true
-shut_reify (number c) = refl
-shut_reify (boolean b) = refl
-shut_reify (function x b p ρ) = refl
-
--- What is open does not show as a value.
-open_shut : (v : Value) (s : Term) → reify v ≡ s → Shut s ≡ false → ⊥
-open_shut v s q f = true≢false (sym (shut_reify v) ∙ ap Shut q ∙ f)
+-- What a value shows as is a value.
+reify_value : (v : Value) → IsValue (reify v)
+reify_value (number c) = num_value
+reify_value (boolean b) = truth_value
+reify_value (function x b p ρ) = lam_value
 
 -- Values that show alike are of one sort, and equal but for a function's body and environment.
 pub number_alike : (a : ℕ) (v : Value) → num a ≡ reify v → number a ≡ v
 number_alike a (number b) q = cc
-number_alike a (boolean b) q = clash cc
-number_alike a (function x b p ρ) q = clash cc
+number_alike a v q = cc
 
 pub boolean_alike : (a : Bool) (v : Value) → truth a ≡ reify v → boolean a ≡ v
-boolean_alike a (number b) q = clash cc
 boolean_alike a (boolean b) q = cc
-boolean_alike a (function x b p ρ) q = clash cc
+boolean_alike a v q = cc
 
 pub function_alike : (x : ℕ) (B : Term) (v : Value) → lam x B ≡ reify v →
     (b : Term) × (p : ℕ) × (ρ : Env) × (function x b p ρ ≡ v) × (B ≡ fill 1 (reify_env ρ) b)
-function_alike x B (number b) q = clash cc
-function_alike x B (boolean b) q = clash cc
-function_alike x B (function y b p ρ) q = let e : x ≡ y = cc in (b, p, ρ, ap (λ z. function z b p ρ) e, cc)
+function_alike x B (function y b p ρ) q = (b, p, ρ, cc, cc)
+function_alike x B v q = cc
 
 pub sort_alike : (v v' : Value) → reify v ≡ reify v' → sort_of v ≡ sort_of v'
 sort_alike (number a) v' q = ap sort_of (number_alike a v' q)
@@ -86,8 +62,7 @@ sort_alike (function x b p ρ) v' q = ap sort_of (function_alike x _ v' q).3
 -- The place of a node does not matter.
 outcome_alike : (p p' : ℕ) (r : Computed) → observe (outcome_at p r) ≡ observe (outcome_at p' r)
 outcome_alike p p' (gives_number c) = refl
-outcome_alike p p' (gives_boolean b) = refl
-outcome_alike p p' (gives_fault φ) = refl
+outcome_alike p p' r = refl
 
 -- What is computed of values that show alike is seen alike.
 pub two_alike : (f : Sort → Sort → Computed) (p p' : ℕ) (v w v' w' : Value) → reify v ≡ reify v' → reify w ≡ reify w' →
@@ -98,9 +73,8 @@ two_alike f p p' v w v' w' q r =
 -- Outcomes that are the same take the same unit to leave a body.
 pub closing_alike : (o o' : Outcome) → observe o ≡ observe o' → closing o ≡ closing o'
 closing_alike (yields v) (yields w) q = refl
-closing_alike (yields v) (fails φ p) q = clash cc
-closing_alike (fails φ p) (yields w) q = clash cc
 closing_alike (fails φ p) (fails φ' p') q = refl
+closing_alike o o' q = cc
 
 pub branch_alike : (b : Bool) (ρ ρ' : Env) (t e t' e' : Term) → close ρ t ≡ close ρ' t' → close ρ e ≡ close ρ' e' →
     close ρ (branch b t e) ≡ close ρ' (branch b t' e')
@@ -117,12 +91,8 @@ module _ (𝓜 : Meaning) where
   leaf v n u ρ p (num c) q = (yields (number c), e_num u, ap sees_value q)
   leaf v n u ρ p (truth b) q = (yields (boolean b), e_truth u, ap sees_value q)
   leaf v n u ρ p (var x i) q = (yields (look ρ i), e_var refl u, ap sees_value (q ∙ term_at-look ρ i))
-  leaf v n u ρ p (binop o l r) q = absurd (open_shut v _ q refl)
-  leaf v n u ρ p (eq l r) q = absurd (open_shut v _ q refl)
-  leaf v n u ρ p (app f a) q = absurd (open_shut v _ q refl)
   leaf v n u ρ p (lam x b) q = (yields (function x b p ρ), e_lam u, ap sees_value q)
-  leaf v n u ρ p (let_in x a b) q = absurd (open_shut v _ q refl)
-  leaf v n u ρ p (if_then c t e) q = absurd (open_shut v _ q refl)
+  leaf v n u ρ p t q = elim (rw q at (reify_value v)) [ ]
 
   -- What is seen of an outcome tells a value from a fault.
   pub has_value : {ρ : Env} {p : ℕ} {t : Term} {n : ℕ} {s : Term} → Has ρ p t n (sees_value s) →
@@ -131,11 +101,11 @@ module _ (𝓜 : Meaning) where
     where
       go : (o : Outcome) → Evals 𝓜 ρ p t o n → sees_value s ≡ observe o → (v : Value) × Evals 𝓜 ρ p t (yields v) n × (s ≡ reify v)
       go (yields v) d q = (v, d, cc)
-      go (fails φ r) d q = clash cc
+      go (fails φ r) d q = cc
 
   pub has_fault : {ρ : Env} {p : ℕ} {t : Term} {n : ℕ} {φ : Fault} → Has ρ p t n (sees_fault φ) → (q : ℕ) × Evals 𝓜 ρ p t (fails φ q) n
   has_fault {ρ} {p} {t} {n} {φ} m = go m.0 m.1 m.2
     where
       go : (o : Outcome) → Evals 𝓜 ρ p t o n → sees_fault φ ≡ observe o → (q : ℕ) × Evals 𝓜 ρ p t (fails φ q) n
-      go (yields v) d q = clash cc
-      go (fails φ' r) d q = let e : φ' ≡ φ = cc in (r, subst (λ a. Evals 𝓜 ρ p t (fails a r) n) e d)
+      go (yields v) d q = cc
+      go (fails φ' r) d q = let e : φ' ≡ φ = cc in (r, rw e at d)

@@ -9,7 +9,6 @@ use Rattle.semantics.specs.Values.{Value, number, boolean, function, ε, ◌▸�
 use Rattle.semantics.specs.Evaluation.{answered, outcome_at, closing, branch, branch_place, Evals, e_num, e_truth, e_lam, e_binop, e_binop_left, e_binop_right, e_eq, e_eq_left, e_eq_right, e_app, e_app_no, e_app_left, e_app_right, e_let, e_let_left, e_if, e_if_no, e_if_left}
 use Rattle.semantics.specs.Substitution.{fill, reify, reify_env, close, sees_value, observe}
 use Rattle.semantics.specs.Reduction.{IsValue, num_value, truth_value, lam_value, Contraction, c_binop, c_eq_num, c_eq_truth, c_app, c_let, c_if, Reduces, r_top, r_binop_left, r_binop_right, r_eq_left, r_eq_right, r_app_left, r_app_right, r_let, r_if}
-use Rattle.semantics.proofs.Clash.{clash}
 use Rattle.semantics.proofs.Substitution.{fill-closed, reify_closed, reify_env_closed, close-close}
 use Rattle.semantics.proofs.Alike.{leaf, has_value}
 use Rattle.semantics.proofs.SameOutcomes.{same_filled}
@@ -42,7 +41,7 @@ module _ (𝓜 : Meaning) where
   value_reify v d = let q = eval_reify v d in cc
 
   fault_reify : (v : Value) {p n : ℕ} {φ : Fault} {q : ℕ} → Evals 𝓜 ε p (reify v) (fails φ q) n → ⊥
-  fault_reify v d = let e = eval_reify v d in clash cc
+  fault_reify v d = let e = eval_reify v d in cc
 
   -- A shown value has itself, in one unit.
   itself : (v : Value) (p : ℕ) → (v' : Value) × Evals 𝓜 ε p (reify v) (yields v') 1 × (reify v ≡ reify v')

@@ -4,11 +4,11 @@ use Rattle.domain.specs.declared.Op.{Op}
 use Rattle.domain.specs.Meaning.{Meaning, Answer, InOrder}
 use Rattle.semantics.specs.declared.layout.Instruction.{Instruction}
 use Rattle.semantics.specs.declared.layout.Instruction.TheVariants.{End, PushNum, PushTruth, Access, PushClosure, PushThunk, Operate, Compare, Bind, Unbind, Apply, Return, Choose}
-use Rattle.semantics.specs.Terms.{Term, num, truth, var, binop, eq, app, lam, let_in, if_then, size}
+use Rattle.semantics.specs.Terms.{Term, num, binop, eq, app, lam, let_in, if_then, size}
 use Rattle.semantics.specs.Scope.{LawfulTerm}
 use Rattle.semantics.specs.Evaluation.{Computed, gives_number, gives_boolean, gives_fault, answered, operated, compared}
 use Rattle.semantics.specs.Translation.{emit, translate}
-use Rattle.semantics.specs.Running.{goes, ends, faults, stuck, Bounds, Halt, with_none_left, with_one_left}
+use Rattle.semantics.specs.Running.{goes, Bounds, Halt, with_none_left, with_one_left}
 use Rattle.semantics.specs.StoredMachine.{Word, w_number, w_boolean, w_closure, Slot, s_val, s_thunk, s_return, StoreCell, in_front, StoredState, at_place, StoredNext, cell_at, front, behind, walk, sort_word, pop_slot, pop_slot_thunk, pop_slot_return, stored_push, stored_enter, stored_enter_branch, perform, stored_step, stored_no_room, input_cells, stored_start, stored_run}
 use Rattle.semantics.specs.Lawful.{LawfulCode, LawfulWord, LawfulSlots, LawfulStore, LawfulState, LawfulNext, NumbersStayLawful, AllLawful, RunsHoldLawfulNumbers}
 
@@ -35,30 +35,23 @@ module _ (𝓜 : Meaning) where
   -- What is popped off a lawful stack, and what is left of it, is lawful.
   pop-lawful : (s : List Slot) (f : Word → List Slot → StoredNext) → LawfulSlots 𝓜 s →
       ((w : Word) (s : List Slot) → LawfulWord 𝓜 w → LawfulSlots 𝓜 s → LawfulNext 𝓜 (f w s)) → LawfulNext 𝓜 (pop_slot s f)
-  pop-lawful [] f h next = tt
   pop-lawful (s_val w ∷ s) f h next = next w s h.0 h.1
-  pop-lawful (s_thunk p e ∷ s) f h next = tt
-  pop-lawful (s_return p e ∷ s) f h next = tt
+  pop-lawful s f h next = tt
 
   thunk-lawful : (s : List Slot) (f : ℕ → ℕ → List Slot → StoredNext) → LawfulSlots 𝓜 s →
       ((p e : ℕ) (s : List Slot) → LawfulSlots 𝓜 s → LawfulNext 𝓜 (f p e s)) → LawfulNext 𝓜 (pop_slot_thunk s f)
-  thunk-lawful [] f h next = tt
-  thunk-lawful (s_val w ∷ s) f h next = tt
   thunk-lawful (s_thunk p e ∷ s) f h next = next p e s h.1
-  thunk-lawful (s_return p e ∷ s) f h next = tt
+  thunk-lawful s f h next = tt
 
   return_lawful : (s : List Slot) (f : ℕ → ℕ → List Slot → StoredNext) → LawfulSlots 𝓜 s →
       ((p e : ℕ) (s : List Slot) → LawfulSlots 𝓜 s → LawfulNext 𝓜 (f p e s)) → LawfulNext 𝓜 (pop_slot_return s f)
-  return_lawful [] f h next = tt
-  return_lawful (s_val w ∷ s) f h next = tt
-  return_lawful (s_thunk p e ∷ s) f h next = tt
   return_lawful (s_return p e ∷ s) f h next = next p e s h.1
+  return_lawful s f h next = tt
 
   -- What an operation or a comparison of lawful values gives is lawful.
   abbrev LawfulComputed : Computed → Type 0
   LawfulComputed (gives_number c) = 𝓜.lawful c ≡ true
-  LawfulComputed (gives_boolean b) = Unit {0}
-  LawfulComputed (gives_fault φ) = Unit {0}
+  LawfulComputed r = Unit {0}
 
   answer-lawful : (o : Op) (a b : ℕ) → 𝓜.lawful a ≡ true → 𝓜.lawful b ≡ true → LawfulComputed (answered (𝓜.table o a b))
   answer-lawful o a b ha hb = go (𝓜.table o a b) (𝓜.closed o a b ha hb)
@@ -69,19 +62,12 @@ module _ (𝓜 : Meaning) where
 
   operated-lawful : (o : Op) (v w : Word) → LawfulWord 𝓜 v → LawfulWord 𝓜 w → LawfulComputed (operated 𝓜 o (sort_word v) (sort_word w))
   operated-lawful o (w_number a) (w_number b) hv hw = answer-lawful o a b hv hw
-  operated-lawful o (w_number a) (w_boolean b) hv hw = tt
-  operated-lawful o (w_number a) (w_closure p e) hv hw = tt
-  operated-lawful o (w_boolean a) w hv hw = tt
-  operated-lawful o (w_closure p e) w hv hw = tt
+  operated-lawful o v w hv hw = tt
 
   compared-lawful : (v w : Word) → LawfulComputed (compared 𝓜 (sort_word v) (sort_word w))
   compared-lawful (w_number a) (w_number b) = tt
-  compared-lawful (w_number a) (w_boolean b) = tt
-  compared-lawful (w_number a) (w_closure p e) = tt
-  compared-lawful (w_boolean a) (w_number b) = tt
   compared-lawful (w_boolean a) (w_boolean b) = tt
-  compared-lawful (w_boolean a) (w_closure p e) = tt
-  compared-lawful (w_closure p e) w = tt
+  compared-lawful v w = tt
 
   -- Pushing it, entering a body and entering a branch keep all lawful.
   push_lawful : (p : ℕ) (r : Computed) (q e : ℕ) (s : List Slot) (σ : List StoreCell) → LawfulComputed r → LawfulSlots 𝓜 s → LawfulStore 𝓜 σ →
@@ -92,16 +78,14 @@ module _ (𝓜 : Meaning) where
 
   enter-lawful : (p : ℕ) (f w : Word) (q e : ℕ) (s : List Slot) (σ : List StoreCell) → LawfulWord 𝓜 w → LawfulSlots 𝓜 s → LawfulStore 𝓜 σ →
       LawfulNext 𝓜 (stored_enter p f w q e s σ)
-  enter-lawful p (w_number c) w q e s σ hw hs hc = tt
-  enter-lawful p (w_boolean b) w q e s σ hw hs hc = tt
   enter-lawful p (w_closure b e') w q e s σ hw hs hc = ((tt, hs), (hw, hc))
+  enter-lawful p f w q e s σ hw hs hc = tt
 
   branch-lawful : (p : ℕ) (w : Word) (pt et pe ee q e : ℕ) (s : List Slot) (σ : List StoreCell) → LawfulSlots 𝓜 s → LawfulStore 𝓜 σ →
       LawfulNext 𝓜 (stored_enter_branch p w pt et pe ee q e s σ)
-  branch-lawful p (w_number c) pt et pe ee q e s σ hs hc = tt
   branch-lawful p (w_boolean true) pt et pe ee q e s σ hs hc = ((tt, hs), hc)
   branch-lawful p (w_boolean false) pt et pe ee q e s σ hs hc = ((tt, hs), hc)
-  branch-lawful p (w_closure b e') pt et pe ee q e s σ hs hc = tt
+  branch-lawful p w pt et pe ee q e s σ hs hc = tt
 
   -- So does every instruction.
   perform-lawful : (k : List Instruction) (q e : ℕ) (s : List Slot) (σ : List StoreCell) → LawfulCode 𝓜 k → LawfulSlots 𝓜 s → LawfulStore 𝓜 σ →
@@ -128,8 +112,6 @@ module _ (𝓜 : Meaning) where
   -- The translation of a lawful term is lawful.
   emit-lawful : (p : ℕ) (t : Term) (k : List Instruction) → LawfulTerm 𝓜 t → LawfulCode 𝓜 k → LawfulCode 𝓜 (emit p t k)
   emit-lawful p (num c) k h hk = (h, hk)
-  emit-lawful p (truth b) k h hk = (tt, hk)
-  emit-lawful p (var x i) k h hk = (tt, hk)
   emit-lawful p (binop o l r) k h hk = emit-lawful (suc p) l _ h.0 (emit-lawful (suc p + size l) r _ h.1 (tt, hk))
   emit-lawful p (eq l r) k h hk = emit-lawful (suc p) l _ h.0 (emit-lawful (suc p + size l) r _ h.1 (tt, hk))
   emit-lawful p (app f a) k h hk = emit-lawful (suc p) f _ h.0 (emit-lawful (suc p + size f) a _ h.1 (tt, hk))
@@ -137,6 +119,7 @@ module _ (𝓜 : Meaning) where
   emit-lawful p (let_in x a b) k h hk = emit-lawful (suc p) a _ h.0 (tt, emit-lawful (suc p + size a) b _ h.1 (tt, hk))
   emit-lawful p (if_then c t e) k h hk =
       (tt, emit-lawful (suc p + size c) t _ h.1 (tt, (tt, emit-lawful (suc p + size c + size t) e _ h.2 (tt, emit-lawful (suc p) c _ h.0 (tt, hk)))))
+  emit-lawful p t k h hk = (tt, hk)
 
   -- Lawful inputs are stored as lawful cells.
   inputs_lawful : (cs : List ℕ) → AllLawful 𝓜 cs → LawfulStore 𝓜 (input_cells cs)
@@ -153,18 +136,14 @@ module _ (𝓜 : Meaning) where
     where
       go : (y : StoredNext) → LawfulState 𝓜 (with_none_left x y).state
       go (goes z) = h
-      go (ends w) = h
-      go (faults φ p) = h
-      go stuck = h
+      go y = h
   run-lawful L C hC (suc g) x h = go (stored_no_room L C x) (stored_step 𝓜 C x) (step-lawful C x hC h) (run-lawful L C hC g)
     where
       go : (w : Option Halt) (y : StoredNext) → LawfulNext 𝓜 y → ((z : StoredState) → LawfulState 𝓜 z → LawfulState 𝓜 (stored_run 𝓜 L C g z).state) →
           LawfulState 𝓜 (with_one_left x w y (λ z. stored_run 𝓜 L C g z)).state
-      go (Some w) (goes z) hz ih = h
       go None (goes z) hz ih = ih z hz
-      go w (ends v) hz ih = h
-      go w (faults φ p) hz ih = h
-      go w stuck hz ih = h
+      go (Some w) (goes z) hz ih = h
+      go w y hz ih = h
 
 pub numbers_stay_lawful : NumbersStayLawful
 numbers_stay_lawful 𝓜 C x hC h = step-lawful 𝓜 C x hC h

@@ -1,4 +1,7 @@
 pub mod Clash
+pub mod Found
+pub mod Labels
+pub mod Layouts
 pub mod Substitution
 pub mod Alike
 pub mod SameOutcomes

@@ -1,18 +1,27 @@
 -- A term reduces to at most one, and a node whose turn waits for a stuck term is stuck.
-use Rattle.std.proofs.Common.{◌≡◌, ℕ, Ok, sym, ap, ◌∙◌}
+use Rattle.std.proofs.Common.{◌≡◌, ℕ, sym, ap, ◌∙◌}
 use Rattle.domain.specs.declared.Op.{Op}
-use Rattle.domain.specs.Meaning.{Meaning, Answer}
-use Rattle.semantics.specs.Terms.{Term, num, truth, binop, eq, app, let_in, if_then}
+use Rattle.domain.specs.Meaning.{Meaning}
+use Rattle.semantics.specs.declared.layout.Instruction.{Instruction}
+use Rattle.semantics.specs.declared.layout.Instruction.TheVariants.{Operate, Compare, Apply}
+use Rattle.semantics.specs.Terms.{Term, truth, binop, eq, app, let_in, if_then}
 use Rattle.semantics.specs.Reduction.{IsValue, num_value, truth_value, lam_value, Contraction, c_binop, c_eq_num, c_eq_truth, c_app, c_let, c_if, Reduces, r_top, r_binop_left, r_binop_right, r_eq_left, r_eq_right, r_app_left, r_app_right, r_let, r_if, IsStuck, AtMostOneReduction}
+
+-- The instructions that take two values, and the nodes that they make.
+pub data Joins : Instruction → Type 0 where
+  joins_operate : {o : Op} {p : ℕ} → Joins (Operate o p)
+  joins_compare : {p : ℕ} → Joins (Compare p)
+  joins_apply : {p : ℕ} → Joins (Apply p)
+
+abbrev pub node : {i : Instruction} → Joins i → Term → Term → Term
+node (joins_operate {o = o}) l r = binop o l r
+node joins_compare l r = eq l r
+node joins_apply l r = app l r
 
 -- A relation between terms that goes over to every place where the next contraction is looked for.
 pub record Congruent (R : Term → Term → Type 0) : Type 0 where
-  pub in_binop_left : {o : Op} {l l' r : Term} → R l l' → R (binop o l r) (binop o l' r)
-  pub in_binop_right : {o : Op} {l r r' : Term} → IsValue l → R r r' → R (binop o l r) (binop o l r')
-  pub in_eq_left : {l l' r : Term} → R l l' → R (eq l r) (eq l' r)
-  pub in_eq_right : {l r r' : Term} → IsValue l → R r r' → R (eq l r) (eq l r')
-  pub in_app_left : {f f' a : Term} → R f f' → R (app f a) (app f' a)
-  pub in_app_right : {f a a' : Term} → IsValue f → R a a' → R (app f a) (app f a')
+  pub in_first : {i : Instruction} (j : Joins i) {l l' : Term} (r : Term) → R l l' → R (node j l r) (node j l' r)
+  pub in_second : {i : Instruction} (j : Joins i) {l r r' : Term} → IsValue l → R r r' → R (node j l r) (node j l r')
   pub in_bound : {x : ℕ} {a a' b : Term} → R a a' → R (let_in x a b) (let_in x a' b)
   pub in_condition : {c c' t e : Term} → R c c' → R (if_then c t e) (if_then c' t e)
 
@@ -54,8 +63,7 @@ module _ (𝓜 : Meaning) where
   -- Nor is it a value.
   unsettled : {t : Term} → Ready t → IsValue t → ⊥
   unsettled h num_value = elim h [ ]
-  unsettled h truth_value = elim h [ ]
-  unsettled h lam_value = elim h [ ]
+  unsettled h v = elim h [ ]
 
   -- A ready node that no rule contracts is stuck.
   pub no_rule : {t : Term} → Ready t → ((u : Term) → Contraction 𝓜 t u → ⊥) → IsStuck 𝓜 t
@@ -63,10 +71,7 @@ module _ (𝓜 : Meaning) where
 
   -- A node contracts to at most one term.
   unique_contraction : {t u u' : Term} → Contraction 𝓜 t u → Contraction 𝓜 t u' → u ≡ u'
-  unique_contraction (c_binop e) (c_binop e') = one_answer (sym e ∙ e')
-    where
-      one_answer : {a b : ℕ} → ◌≡◌ {A = Answer} (Ok a) (Ok b) → num a ≡ num b
-      one_answer e = cc
+  unique_contraction (c_binop e) (c_binop e') = cc
   unique_contraction (c_eq_num e) (c_eq_num e') = ap truth (sym e ∙ e')
   unique_contraction (c_eq_truth e) (c_eq_truth e') = ap truth (sym e ∙ e')
   unique_contraction (c_let v e) (c_let v' e') = sym e ∙ e'
@@ -104,69 +109,62 @@ module _ (𝓜 : Meaning) where
   unique_reduct (r_if {t = t} {e = e} d) (r_if d') = ap (λ c. if_then c t e) (unique_reduct d d')
 
   -- Reduction is congruent, by its own rules.
+  reduces_first : {i : Instruction} (j : Joins i) {l l' : Term} (r : Term) → Reduces 𝓜 l l' → Reduces 𝓜 (node j l r) (node j l' r)
+  reduces_first joins_operate r d = r_binop_left d
+  reduces_first joins_compare r d = r_eq_left d
+  reduces_first joins_apply r d = r_app_left d
+
+  reduces_second : {i : Instruction} (j : Joins i) {l r r' : Term} → IsValue l → Reduces 𝓜 r r' → Reduces 𝓜 (node j l r) (node j l r')
+  reduces_second joins_operate v d = r_binop_right v d
+  reduces_second joins_compare v d = r_eq_right v d
+  reduces_second joins_apply v d = r_app_right v d
+
   pub reduces_congruent : Congruent (Reduces 𝓜)
-  reduces_congruent = record {
-    in_binop_left = r_binop_left;
-    in_binop_right = r_binop_right;
-    in_eq_left = r_eq_left;
-    in_eq_right = r_eq_right;
-    in_app_left = r_app_left;
-    in_app_right = r_app_right;
-    in_bound = r_let;
-    in_condition = r_if;
-  }
+  reduces_congruent = record { in_first = reduces_first; in_second = reduces_second; in_bound = r_let; in_condition = r_if }
 
   -- A node that has a stuck term where the next contraction is looked for is stuck.
-  stuck_binop_left : {o : Op} {l r : Term} → IsStuck 𝓜 l → {u : Term} → Reduces 𝓜 (binop o l r) u → ⊥
-  stuck_binop_left s (r_top (c_binop e)) = s.0 num_value
-  stuck_binop_left s (r_binop_left {l' = l'} d) = s.1 l' d
-  stuck_binop_left s (r_binop_right v d) = s.0 v
+  stuck_first : {i : Instruction} (j : Joins i) {l : Term} (r : Term) {u : Term} → IsStuck 𝓜 l → Reduces 𝓜 (node j l r) u → ⊥
+  stuck_first joins_operate r s (r_top (c_binop e)) = s.0 num_value
+  stuck_first joins_operate r s (r_binop_left d) = s.1 _ d
+  stuck_first joins_operate r s (r_binop_right v d) = s.0 v
+  stuck_first joins_compare r s (r_top (c_eq_num e)) = s.0 num_value
+  stuck_first joins_compare r s (r_top (c_eq_truth e)) = s.0 truth_value
+  stuck_first joins_compare r s (r_eq_left d) = s.1 _ d
+  stuck_first joins_compare r s (r_eq_right v d) = s.0 v
+  stuck_first joins_apply r s (r_top (c_app v e)) = s.0 lam_value
+  stuck_first joins_apply r s (r_app_left d) = s.1 _ d
+  stuck_first joins_apply r s (r_app_right v d) = s.0 v
 
-  stuck_binop_right : {o : Op} {l r : Term} → IsValue l → IsStuck 𝓜 r → {u : Term} → Reduces 𝓜 (binop o l r) u → ⊥
-  stuck_binop_right v s (r_top (c_binop e)) = s.0 num_value
-  stuck_binop_right v s (r_binop_left d) = settled v d
-  stuck_binop_right v s (r_binop_right {r' = r'} v' d) = s.1 r' d
+  stuck_second : {i : Instruction} (j : Joins i) {l r u : Term} → IsValue l → IsStuck 𝓜 r → Reduces 𝓜 (node j l r) u → ⊥
+  stuck_second joins_operate v s (r_top (c_binop e)) = s.0 num_value
+  stuck_second joins_operate v s (r_binop_left d) = settled v d
+  stuck_second joins_operate v s (r_binop_right v' d) = s.1 _ d
+  stuck_second joins_compare v s (r_top (c_eq_num e)) = s.0 num_value
+  stuck_second joins_compare v s (r_top (c_eq_truth e)) = s.0 truth_value
+  stuck_second joins_compare v s (r_eq_left d) = settled v d
+  stuck_second joins_compare v s (r_eq_right v' d) = s.1 _ d
+  stuck_second joins_apply v s (r_top (c_app v' e)) = s.0 v'
+  stuck_second joins_apply v s (r_app_left d) = settled v d
+  stuck_second joins_apply v s (r_app_right v' d) = s.1 _ d
 
-  stuck_eq_left : {l r : Term} → IsStuck 𝓜 l → {u : Term} → Reduces 𝓜 (eq l r) u → ⊥
-  stuck_eq_left s (r_top (c_eq_num e)) = s.0 num_value
-  stuck_eq_left s (r_top (c_eq_truth e)) = s.0 truth_value
-  stuck_eq_left s (r_eq_left {l' = l'} d) = s.1 l' d
-  stuck_eq_left s (r_eq_right v d) = s.0 v
+  stuck_bound : {x : ℕ} {a b u : Term} → IsStuck 𝓜 a → Reduces 𝓜 (let_in x a b) u → ⊥
+  stuck_bound s (r_top (c_let v e)) = s.0 v
+  stuck_bound s (r_let d) = s.1 _ d
 
-  stuck_eq_right : {l r : Term} → IsValue l → IsStuck 𝓜 r → {u : Term} → Reduces 𝓜 (eq l r) u → ⊥
-  stuck_eq_right v s (r_top (c_eq_num e)) = s.0 num_value
-  stuck_eq_right v s (r_top (c_eq_truth e)) = s.0 truth_value
-  stuck_eq_right v s (r_eq_left d) = settled v d
-  stuck_eq_right v s (r_eq_right {r' = r'} v' d) = s.1 r' d
+  stuck_condition : {c t e u : Term} → IsStuck 𝓜 c → Reduces 𝓜 (if_then c t e) u → ⊥
+  stuck_condition s (r_top (c_if e)) = s.0 truth_value
+  stuck_condition s (r_if d) = s.1 _ d
 
-  stuck_app_left : {f a : Term} → IsStuck 𝓜 f → {u : Term} → Reduces 𝓜 (app f a) u → ⊥
-  stuck_app_left s (r_top (c_app v e)) = s.0 lam_value
-  stuck_app_left s (r_app_left {f' = f'} d) = s.1 f' d
-  stuck_app_left s (r_app_right v d) = s.0 v
-
-  stuck_app_right : {f a : Term} → IsValue f → IsStuck 𝓜 a → {u : Term} → Reduces 𝓜 (app f a) u → ⊥
-  stuck_app_right v s (r_top (c_app v' e)) = s.0 v'
-  stuck_app_right v s (r_app_left d) = settled v d
-  stuck_app_right v s (r_app_right {a' = a'} v' d) = s.1 a' d
-
-  stuck_let : {x : ℕ} {a b : Term} → IsStuck 𝓜 a → {u : Term} → Reduces 𝓜 (let_in x a b) u → ⊥
-  stuck_let s (r_top (c_let v e)) = s.0 v
-  stuck_let s (r_let {a' = a'} d) = s.1 a' d
-
-  stuck_if : {c t e : Term} → IsStuck 𝓜 c → {u : Term} → Reduces 𝓜 (if_then c t e) u → ⊥
-  stuck_if s (r_top (c_if e)) = s.0 truth_value
-  stuck_if s (r_if {c' = c'} d) = s.1 c' d
+  node_no_value : {i : Instruction} (j : Joins i) (l r : Term) → IsValue (node j l r) → ⊥
+  node_no_value joins_operate l r v = elim v [ ]
+  node_no_value j l r v = elim v [ ]
 
   pub stuck_congruent : Congruent (λ t t'. IsStuck 𝓜 t)
   stuck_congruent = record {
-    in_binop_left = λ s. (λ v. elim v [ ], λ u d. stuck_binop_left s d);
-    in_binop_right = λ v s. (λ v. elim v [ ], λ u d. stuck_binop_right v s d);
-    in_eq_left = λ s. (λ v. elim v [ ], λ u d. stuck_eq_left s d);
-    in_eq_right = λ v s. (λ v. elim v [ ], λ u d. stuck_eq_right v s d);
-    in_app_left = λ s. (λ v. elim v [ ], λ u d. stuck_app_left s d);
-    in_app_right = λ v s. (λ v. elim v [ ], λ u d. stuck_app_right v s d);
-    in_bound = λ s. (λ v. elim v [ ], λ u d. stuck_let s d);
-    in_condition = λ s. (λ v. elim v [ ], λ u d. stuck_if s d);
+    in_first = λ j r s. (node_no_value j _ r, λ u d. stuck_first j r s d);
+    in_second = λ j v s. (node_no_value j _ _, λ u d. stuck_second j v s d);
+    in_bound = λ s. (λ v. elim v [ ], λ u d. stuck_bound s d);
+    in_condition = λ s. (λ v. elim v [ ], λ u d. stuck_condition s d);
   }
 
 pub at_most_one_reduction : AtMostOneReduction

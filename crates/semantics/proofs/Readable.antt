@@ -1,10 +1,9 @@
 -- All that showing a stop of a run reads can be read.
 use Rattle.std.proofs.Common.{◌≡◌, ℕ, suc, List, [], ◌∷◌, Some, Option, sym, refl, ap, ◌∙◌, subst}
-use Rattle.semantics.specs.Terms.{Term, binop, eq, app, let_in, if_then}
-use Rattle.semantics.specs.Values.{Value, Env}
+use Rattle.semantics.specs.Terms.{Term, let_in, if_then}
 use Rattle.semantics.specs.Substitution.{fill}
 use Rattle.semantics.specs.declared.layout.Instruction.{Instruction}
-use Rattle.semantics.specs.declared.layout.Instruction.TheVariants.{PushThunk, Operate, Compare, Unbind, Apply, Return, Choose}
+use Rattle.semantics.specs.declared.layout.Instruction.TheVariants.{PushThunk, Unbind, Return, Choose}
 use Rattle.semantics.specs.Translation.{code_size, emit}
 use Rattle.semantics.specs.Machine.{Held, HeldEnv, Cell, State, start}
 use Rattle.semantics.specs.Showing.{Mark, in_thunk, in_let, holding, read, show_held, show_env, own_cells}
@@ -12,40 +11,36 @@ use Rattle.semantics.specs.PartialReading.{with_term, attempt, attempt_in, on_to
 use Rattle.semantics.specs.StoredAgrees.{EveryStoredStopIsReadable}
 use Rattle.semantics.proofs.ReadingBack.{read-emit}
 use Rattle.semantics.proofs.PartialReading.{attempt-emit}
-use Rattle.semantics.proofs.Simulation.{Fits, fits_number, fits_boolean, fits_function, FitsEnv, fits_none, fits_more}
+use Rattle.semantics.proofs.OneReduction.{Joins, joins_operate, node}
 use Rattle.semantics.proofs.Room.{run_stops_at_a_step}
-use Rattle.semantics.proofs.Continuations.{Kont, k_end, k_return, k_binop_right, k_binop_left, k_eq_right, k_eq_left, k_app_right, k_app_left, k_let_bound, k_let_body, k_if, good_around, RunState, on_term, on_value, between_thunks}
+use Rattle.semantics.proofs.Continuations.{Good, good_number, good_boolean, good_closure, GoodEnv, good_none, good_more, Kont, k_end, k_return, k_first, k_second, k_let_bound, k_let_body, k_if, good_around, RunState, on_term, on_value, between_thunks}
+use Rattle.semantics.proofs.ShownSteps.{Any}
 use Rattle.semantics.proofs.ReductionSequence.{start_run_state, run_state_along}
 use Rattle.semantics.proofs.StoredRuns.{stored_stops_stand}
 
--- What stands for a value can be read.
+-- What the machine holds can be read.
 mutual
-  held_readable : {h : Held} {v : Value} → Fits h v → ReadableHeld h
-  held_readable fits_number = tt
-  held_readable fits_boolean = tt
-  held_readable (fits_function {b = b} {p = p} {ρ' = ρ} k fs) =
-      ((fill 1 (show_env ρ) b, attempt-emit (suc p) b (Return ∷ k) 1 (show_env ρ) [] []), env_readable fs)
+  held_readable : {h : Held} → Good Any h → ReadableHeld h
+  held_readable good_number = tt
+  held_readable good_boolean = tt
+  held_readable (good_closure p b k {ρ = ρ} s g) = ((fill 1 (show_env ρ) b, attempt-emit p b (Return ∷ k) 1 (show_env ρ) [] []), env_readable g)
 
-  env_readable : {ρ' : HeldEnv} {ρ : Env} → FitsEnv ρ' ρ → ReadableEnv ρ'
-  env_readable fits_none = tt
-  env_readable (fits_more f fs) = (held_readable f, env_readable fs)
+  env_readable : {ρ : HeldEnv} → GoodEnv Any ρ → ReadableEnv ρ
+  env_readable good_none = tt
+  env_readable (good_more h g) = (held_readable h, env_readable g)
 
 -- So can the environment of what waits, and the values in its cells.
-around_readable : {k : List Instruction} {ρ : HeldEnv} {c : List Cell} → Kont k ρ c → ReadableEnv ρ
-around_readable K = env_readable (good_around K).1
+around_readable : {k : List Instruction} {ρ : HeldEnv} {c : List Cell} → Kont Any k ρ c → ReadableEnv ρ
+around_readable K = env_readable (good_around Any K)
 
-cells_readable : {k : List Instruction} {ρ : HeldEnv} {c : List Cell} → Kont k ρ c → ReadableCells c
+cells_readable : {k : List Instruction} {ρ : HeldEnv} {c : List Cell} → Kont Any k ρ c → ReadableCells c
 cells_readable (k_end g) = tt
 cells_readable (k_return g K) = (around_readable K, cells_readable K)
-cells_readable (k_binop_right o p q r K) = cells_readable K
-cells_readable (k_binop_left o p g K) = (held_readable g.1, cells_readable K)
-cells_readable (k_eq_right p q r K) = cells_readable K
-cells_readable (k_eq_left p g K) = (held_readable g.1, cells_readable K)
-cells_readable (k_app_right p q r K) = cells_readable K
-cells_readable (k_app_left p g K) = (held_readable g.1, cells_readable K)
-cells_readable (k_let_bound x q b K) = cells_readable K
+cells_readable (k_first j q r s K) = cells_readable K
+cells_readable (k_second j g K) = (held_readable g, cells_readable K)
+cells_readable (k_let_bound x q b s K) = cells_readable K
 cells_readable (k_let_body g K) = cells_readable K
-cells_readable (k_if p qt qe t e r₁ r₂ K) = (around_readable K, (around_readable K, cells_readable K))
+cells_readable (k_if p qt qe t e r₁ r₂ st se K) = (around_readable K, (around_readable K, cells_readable K))
 
 -- What goes on with a frame's term.
 abbrev below : List Cell → Option Term → Option Term
@@ -66,49 +61,46 @@ thunk-read : (p : ℕ) (t : Term) (k : List Instruction) (ρ : HeldEnv) →
 thunk-read p t k ρ = attempt-emit p t (Return ∷ k) 0 (show_env ρ) [] [] ∙ ap Some (sym (read-emit p t (Return ∷ k) 0 (show_env ρ) [] []))
 
 -- So can a frame's own cells under what waits for a value.
-own_read : {k : List Instruction} {ρ : HeldEnv} {c : List Cell} → Kont k ρ c → attempt_own c ≡ Some (own_cells c)
+own_read : {k : List Instruction} {ρ : HeldEnv} {c : List Cell} → Kont Any k ρ c → attempt_own c ≡ Some (own_cells c)
 own_read (k_end g) = refl
 own_read (k_return g K) = refl
-own_read (k_binop_right o p q r K) = own_read K
-own_read (k_binop_left o p {h = h} g K) = ap (on_top (Some (show_held h))) (own_read K)
-own_read (k_eq_right p q r K) = own_read K
-own_read (k_eq_left p {h = h} g K) = ap (on_top (Some (show_held h))) (own_read K)
-own_read (k_app_right p q r K) = own_read K
-own_read (k_app_left p {h = h} g K) = ap (on_top (Some (show_held h))) (own_read K)
-own_read (k_let_bound x q b K) = own_read K
+own_read (k_first j q r s K) = own_read K
+own_read (k_second j {h = h} g K) = ap (on_top (Some (show_held h))) (own_read K)
+own_read (k_let_bound x q b s K) = own_read K
 own_read (k_let_body g K) = own_read K
-own_read (k_if p qt qe t e r₁ r₂ {ρ = ρ} K) = λ i. on_top (thunk-read qe e r₂ ρ i) (on_top (thunk-read qt t r₁ ρ i) (own_read K i))
+own_read (k_if p qt qe t e r₁ r₂ {ρ = ρ} st se K) = λ i. on_top (thunk-read qe e r₂ ρ i) (on_top (thunk-read qt t r₁ ρ i) (own_read K i))
+
+-- An instruction that takes two values makes its node of the two terms on top.
+joined : {i : Instruction} (j : Joins i) (k : List Instruction) (ρ : HeldEnv) (a b : Term) (s : List Term) →
+    attempt_in 0 ρ (i ∷ k) (b ∷ a ∷ s) ≡ attempt_in 0 ρ k (node j a b ∷ s)
+joined joins_operate k ρ a b s = refl
+joined j k ρ a b s = refl
 
 -- What waits for a value can be read over any term that stands for it.
 abbrev Reads : List Instruction → HeldEnv → List Cell → Term → Type 0
 Reads k ρ c T = (t : Term) × (below c (attempt_in 0 ρ k (T ∷ own_cells c)) ≡ Some t)
 
-rest_read : {k : List Instruction} {ρ : HeldEnv} {c : List Cell} → Kont k ρ c → (T : Term) → Reads k ρ c T
+rest_read : {k : List Instruction} {ρ : HeldEnv} {c : List Cell} → Kont Any k ρ c → (T : Term) → Reads k ρ c T
 rest_read (k_end g) T = (T, refl)
 rest_read (k_return {ρ = ρ} {k = k} {c = c} g K) T = let (t, e) = rest_read K T in (t, ap (in_frame k ρ c (◌∷◌ T)) (own_read K) ∙ e)
-rest_read (k_binop_right o p q r {ρ = ρ} {k = k} {c = c} K) T =
-    let (t, e) = rest_read K (binop o T (fill 0 (show_env ρ) r)) in (t, frame_attempt q r (Operate o p ∷ k) ρ [] (T ∷ own_cells c) c ∙ e)
-rest_read (k_binop_left o p {h = h} g K) T = rest_read K (binop o (show_held h) T)
-rest_read (k_eq_right p q r {ρ = ρ} {k = k} {c = c} K) T =
-    let (t, e) = rest_read K (eq T (fill 0 (show_env ρ) r)) in (t, frame_attempt q r (Compare p ∷ k) ρ [] (T ∷ own_cells c) c ∙ e)
-rest_read (k_eq_left p {h = h} g K) T = rest_read K (eq (show_held h) T)
-rest_read (k_app_right p q r {ρ = ρ} {k = k} {c = c} K) T =
-    let (t, e) = rest_read K (app T (fill 0 (show_env ρ) r)) in (t, frame_attempt q r (Apply p ∷ k) ρ [] (T ∷ own_cells c) c ∙ e)
-rest_read (k_app_left p {h = h} g K) T = rest_read K (app (show_held h) T)
-rest_read (k_let_bound x q b {ρ = ρ} {k = k} {c = c} K) T =
+rest_read (k_first j q r {ρ = ρ} {k = k} {c = c} s K) T =
+    let (t, e) = rest_read K (node j T (fill 0 (show_env ρ) r)) in (t, frame_attempt q r _ ρ [] (T ∷ own_cells c) c ∙ ap (below c) (joined j k ρ _ _ _) ∙ e)
+rest_read (k_second j {h = h} {ρ = ρ} {k = k} {c = c} g K) T =
+    let (t, e) = rest_read K (node j (show_held h) T) in (t, ap (below c) (joined j k ρ _ _ _) ∙ e)
+rest_read (k_let_bound x q b {ρ = ρ} {k = k} {c = c} s K) T =
     let (t, e) = rest_read K (let_in x T (fill 1 (show_env ρ) b)) in (t, frame_attempt q b (Unbind ∷ k) ρ (in_let x T ∷ []) (own_cells c) c ∙ e)
 rest_read (k_let_body g K) T = rest_read K T
-rest_read (k_if p qt qe t e r₁ r₂ K) T = rest_read K (if_then T _ _)
+rest_read (k_if p qt qe t e r₁ r₂ st se K) T = rest_read K (if_then T _ _)
 
 -- Every state of a run can be read.
-state_readable : {s : State} → RunState s → ReadableState s
-state_readable (on_term p t {ρ = ρ} {k = k} {c = c} K) =
+state_readable : {s : State} → RunState Any s → ReadableState s
+state_readable (on_term p t {ρ = ρ} {k = k} {c = c} s K) =
     let (u, e) = rest_read K (fill 0 (show_env ρ) t) in
     (around_readable K, cells_readable K, (u, ap (in_frame (emit p t k) ρ c (λ s. s)) (own_read K) ∙ frame_attempt p t k ρ [] (own_cells c) c ∙ e))
 state_readable (on_value {h = h} {ρ = ρ} {k = k} {c = c} g K) =
     let (u, e) = rest_read K (show_held h) in
-    (around_readable K, (held_readable g.1, cells_readable K), (u, ap (λ o. in_frame k ρ c (λ s. s) (on_top (Some (show_held h)) o)) (own_read K) ∙ e))
-state_readable (between_thunks p qe t e q qt r₁ {ρ = ρ} {k = k} {c = c} K) =
+    (around_readable K, (held_readable g, cells_readable K), (u, ap (λ o. in_frame k ρ c (λ s. s) (on_top (Some (show_held h)) o)) (own_read K) ∙ e))
+state_readable (between_thunks p qe qt q t e r₁ {ρ = ρ} {k = k} {c = c} s K) =
     let thn : List Instruction = emit qt t (Return ∷ r₁) in
     let cnd : List Instruction = emit (suc p) q (Choose p ∷ k) in
     let els : List Instruction = emit qe e (Return ∷ cnd) in

@@ -6,7 +6,8 @@ use Rattle.semantics.specs.declared.layout.Instruction.{Instruction}
 use Rattle.semantics.specs.declared.layout.Instruction.TheVariants.{End, PushNum, PushTruth, Access, PushClosure, PushThunk, Operate, Compare, Bind, Unbind, Apply, Return, Choose}
 use Rattle.semantics.specs.Terms.{Term, num, truth, var, binop, eq, app, lam, let_in, if_then, size}
 use Rattle.semantics.specs.Scope.{Bears, InScope}
-use Rattle.semantics.specs.Listing.{bit, op_number}
+use Rattle.domain.specs.Numbers.{op_number}
+use Rattle.semantics.specs.Listing.{bit}
 use Rattle.semantics.specs.Substitution.{fill_var, fill}
 use Rattle.semantics.specs.Instructions.{encode}
 use Rattle.semantics.specs.Translation.{emit, translate}

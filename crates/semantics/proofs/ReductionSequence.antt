@@ -15,28 +15,28 @@ use Rattle.semantics.proofs.ReadingBack.{read-emit}
 use Rattle.semantics.proofs.Simulation.{drop_body}
 use Rattle.semantics.proofs.Room.{run_stops_at_a_step}
 use Rattle.semantics.proofs.Agreement.{shown_env_fits, inputs_fit}
-use Rattle.semantics.proofs.OneReduction.{settled, unique_reduct}
-use Rattle.semantics.proofs.Continuations.{Kont, k_end, k_return, k_binop_right, k_binop_left, k_eq_right, k_eq_left, k_app_right, k_app_left, k_let_bound, k_let_body, k_if, RunState, on_term, on_value, between_thunks}
-use Rattle.semantics.proofs.ShownSteps.{InRun, state_kept}
+use Rattle.semantics.proofs.OneReduction.{joins_operate, settled, unique_reduct}
+use Rattle.semantics.proofs.Continuations.{good_inputs, Kont, k_end, k_return, k_first, k_second, k_let_bound, k_let_body, k_if, RunState, on_term, on_value, between_thunks}
+use Rattle.semantics.proofs.ShownSteps.{Any, InRun, state_kept}
 
 -- A run begins by showing the term with its inputs filled in.
 start_shows : (cs : List ℕ) (t : Term) → show (start t cs) ≡ close (input_env cs) t
 start_shows cs t = read-emit 0 t (End ∷ []) 0 (show_env (held_inputs cs)) [] [] ∙ ap (λ σ. fill 0 σ t) (shown_env_fits (inputs_fit cs))
 
 -- Every state on the way is a state of a run.
-pub start_run_state : (cs : List ℕ) (t : Term) → RunState (start t cs)
-start_run_state cs t = on_term 0 t (k_end (input_env cs, inputs_fit cs))
+pub start_run_state : (cs : List ℕ) (t : Term) → RunState Any (start t cs)
+start_run_state cs t = on_term 0 t tt (k_end (good_inputs Any cs))
 
 module _ (𝓜 : Meaning) where
-  next_run_state : {s s' : State} → RunState s → step 𝓜 s ≡ goes s' → RunState s'
+  next_run_state : {s s' : State} → RunState Any s → step 𝓜 s ≡ goes s' → RunState Any s'
   next_run_state c q = subst InRun q (state_kept 𝓜 c).0
 
-  pub run_state_along : {n : ℕ} {s s' : State} → Steps 𝓜 n s s' → RunState s → RunState s'
+  pub run_state_along : {n : ℕ} {s s' : State} → Steps 𝓜 n s s' → RunState Any s → RunState Any s'
   run_state_along here c = c
   run_state_along (more q d) c = run_state_along d (next_run_state c q)
 
   -- The steps of a run reduce what is shown as often as they contract.
-  steps_reduce : {n : ℕ} {s s' : State} (d : Steps 𝓜 n s s') → RunState s → Reductions 𝓜 (contractions d) (show s) (show s')
+  steps_reduce : {n : ℕ} {s s' : State} (d : Steps 𝓜 n s s') → RunState Any s → Reductions 𝓜 (contractions d) (show s) (show s')
   steps_reduce here c = r_here
   steps_reduce (more {s = s} {s' = s'} {s'' = s''} q d) c =
       go (contracting s) (contractions d) (subst (StepShows 𝓜 (show s) (contracting s)) q (state_kept 𝓜 c).1) (steps_reduce d (next_run_state c q))
@@ -79,24 +79,22 @@ module _ (𝓜 : Meaning) where
       (term_settles q (suc p) _ ρ _ m (λ h. contracts_next refl)))
 
   -- A value on top is taken at once, or once the bodies around it are left.
-  value_settles : {k : List Instruction} {ρ : HeldEnv} {c : List Cell} → Kont k ρ c → (h : Held) (m : ℕ) → Settles (at k ρ (val h ∷ c) m)
+  value_settles : {k : List Instruction} {ρ : HeldEnv} {c : List Cell} → Kont Any k ρ c → (h : Held) (m : ℕ) → Settles (at k ρ (val h ∷ c) m)
   value_settles (k_end g) h m = ends_next refl
   value_settles (k_return g K) h m = silent refl refl (value_settles K h m)
-  value_settles (k_binop_right o p q r K) h m = term_settles r q _ _ _ m (λ h'. contracts_next refl)
-  value_settles (k_binop_left o p g K) h m = contracts_next refl
-  value_settles (k_eq_right p q r K) h m = term_settles r q _ _ _ m (λ h'. contracts_next refl)
-  value_settles (k_eq_left p g K) h m = contracts_next refl
-  value_settles (k_app_right p q r K) h m = term_settles r q _ _ _ m (λ h'. contracts_next refl)
-  value_settles (k_app_left p g K) h m = contracts_next refl
-  value_settles (k_let_bound x q b K) h m = contracts_next refl
+  value_settles (k_first joins_operate q r s K) h m = term_settles r q _ _ _ m (λ h'. contracts_next refl)
+  value_settles (k_first j q r s K) h m = term_settles r q _ _ _ m (λ h'. contracts_next refl)
+  value_settles (k_second joins_operate g K) h m = contracts_next refl
+  value_settles (k_second j g K) h m = contracts_next refl
+  value_settles (k_let_bound x q b s K) h m = contracts_next refl
   value_settles (k_let_body g K) h m = silent refl refl (value_settles K h m)
-  value_settles (k_if p qt qe t e r₁ r₂ K) h m = contracts_next refl
+  value_settles (k_if p qt qe t e r₁ r₂ st se K) h m = contracts_next refl
 
   -- So every state of a run settles.
-  state_settles : {s : State} → RunState s → Settles s
-  state_settles (on_term p t {m = m} K) = term_settles t p _ _ _ m (λ h. value_settles K h m)
+  state_settles : {s : State} → RunState Any s → Settles s
+  state_settles (on_term p t {m = m} s K) = term_settles t p _ _ _ m (λ h. value_settles K h m)
   state_settles (on_value {h = h} {m = m} g K) = value_settles K h m
-  state_settles (between_thunks p qe t e q qt r₁ {ρ = ρ} {k = k} {c = c} {m = m} K) =
+  state_settles (between_thunks p qe qt q t e r₁ {ρ = ρ} {k = k} {c = c} {m = m} s K) =
       let cnd : List Instruction = emit (suc p) q (Choose p ∷ k) in
       silent (ap (λ i. goes (at i ρ (thunk (emit qe e (Return ∷ cnd)) ρ ∷ thunk (emit qt t (Return ∷ r₁)) ρ ∷ c) m)) (drop_body qe e cnd)) refl
       (term_settles q (suc p) _ ρ _ m (λ h. contracts_next refl))
@@ -111,8 +109,8 @@ module _ (𝓜 : Meaning) where
   after_one_step {s = s} {b = b} q e (n, s'', d, z, r) = (suc n, s'', more q d, ap (λ b. tally b (contractions d)) e ∙ ap (tally b) z, r)
 
   -- Where what is shown reduces, the run comes to show its reduct.
-  next_shown : {s : State} {k : ℕ} {t u : Term} → Settles s → RunState s → Reduces 𝓜 (show s) t →
-      ((s' : State) → RunState s' → show s' ≡ t → ShownAfter s' k u) → ShownAfter s (suc k) u
+  next_shown : {s : State} {k : ℕ} {t u : Term} → Settles s → RunState Any s → Reduces 𝓜 (show s) t →
+      ((s' : State) → RunState Any s' → show s' ≡ t → ShownAfter s' k u) → ShownAfter s (suc k) u
   next_shown {s = s} {k = k} {t = t} {u = u} (contracts_next e) c d f =
       go (step 𝓜 s) refl (subst (λ b. StepShows 𝓜 (show s) b (step 𝓜 s)) e (state_kept 𝓜 c).1)
     where
@@ -127,7 +125,7 @@ module _ (𝓜 : Meaning) where
       after_one_step q e (next_shown r (next_run_state c q) (subst (λ T. Reduces 𝓜 T t) (sym same) d) f)
 
   -- The run comes to show every term of the reduction sequence.
-  sequence_shown : {k : ℕ} {t u : Term} → Reductions 𝓜 k t u → (s : State) → RunState s → show s ≡ t → ShownAfter s k u
+  sequence_shown : {k : ℕ} {t u : Term} → Reductions 𝓜 k t u → (s : State) → RunState Any s → show s ≡ t → ShownAfter s k u
   sequence_shown r_here s c e = (0, s, here, refl, e)
   sequence_shown (r_more {t' = t'} d r) s c e = next_shown (state_settles c) c (subst (λ T. Reduces 𝓜 T t') (sym e) d) (sequence_shown r)
 

@@ -1,15 +1,13 @@
 -- Runs of any machine: where they stop, and how grants add up.
-use Rattle.std.proofs.Common.{◌≡◌, ℕ, zero, suc, ◌+◌, Bool, true, false, Some, None, Option, sym, refl, ap, ◌∙◌, true≢false, arith}
+use Rattle.std.proofs.Common.{◌≡◌, ℕ, zero, suc, ◌+◌, Bool, true, false, Some, None, Option, refl, ap, ◌∙◌, arith}
 use Rattle.domain.specs.declared.Fault.{Fault}
 use Rattle.semantics.specs.Running.{Next, goes, ends, faults, stuck, Halt, Status, running, ended, failed, broken, Report, reports, one_unit_more, with_none_left, with_one_left, run}
-use Rattle.semantics.proofs.Clash.{clash}
 
 -- A step that is taken or faults.
 abbrev pub busy : {S V : Type 0} → Next S V → Bool
 busy (goes s) = true
-busy (ends v) = false
 busy (faults φ p) = true
-busy stuck = false
+busy x = false
 
 -- A report with n units more spent.
 abbrev pub plus : {S V : Type 0} → ℕ → Report S V → Report S V
@@ -43,9 +41,7 @@ module _ {S V : Type 0} (step : S → Next S V) (halts : S → Option Halt) wher
     where
       go : (x : Next S V) → busy x ≡ true → with_none_left s x ≡ reports running 0 s
       go (goes s') b = refl
-      go (ends v) b = absurd (true≢false (sym b))
-      go (faults φ p) b = refl
-      go stuck b = absurd (true≢false (sym b))
+      go x b = cc
 
   -- A grant in two parts.
   pub grants_add_up : (s : S) (g g' : ℕ) → (run step halts g s).status ≡ running →
@@ -54,38 +50,32 @@ module _ {S V : Type 0} (step : S → Next S V) (halts : S → Option Halt) wher
     where
       go : (x : Next S V) → (with_none_left s x).status ≡ running → run step halts g' s ≡ plus 0 (run step halts g' (with_none_left s x).state)
       go (goes s') q = plus_none _
-      go (ends v) q = clash cc
       go (faults φ p) q = plus_none _
-      go stuck q = clash cc
+      go x q = cc
   grants_add_up s (suc g) g' is =
       let e : suc g + g' ≡ suc (g + g') = omega arith in ap (λ i. run step halts i s) e ∙ go (halts s) (step s) is (λ s. grants_add_up s g g')
     where
       go : (w : Option Halt) (x : Next S V) → (with_one_left s w x (λ s. run step halts g s)).status ≡ running →
           ((s : S) → (run step halts g s).status ≡ running → run step halts (g + g') s ≡ plus g (run step halts g' (run step halts g s).state)) →
           with_one_left s w x (λ s. run step halts (g + g') s) ≡ plus (suc g) (run step halts g' (with_one_left s w x (λ s. run step halts g s)).state)
-      go w (ends v) q ih = clash cc
-      go (Some w) (goes s') q ih = clash cc
       go None (goes s') q ih = ap one_unit_more (ih s' q) ∙ plus-more g _
-      go w (faults φ p) q ih = clash cc
-      go w stuck q ih = clash cc
+      go (Some w) (goes s') q ih = cc
+      go w x q ih = cc
 
   -- A run at rest stays.
   pub run_at_rest_stays : (s : S) (g g' : ℕ) → ((run step halts g s).status ≡ running → ⊥) → run step halts (g + g') s ≡ run step halts g s
   run_at_rest_stays s zero g' ne = let e : 0 + g' ≡ g' = omega arith in ap (λ i. run step halts i s) e ∙ go (step s) refl ne
     where
       go : (x : Next S V) → step s ≡ x → ((with_none_left s x).status ≡ running → ⊥) → run step halts g' s ≡ with_none_left s x
-      go (goes s') q ne = absurd (ne refl)
       go (ends v) q ne = run_ends s v q g'
-      go (faults φ p) q ne = absurd (ne refl)
       go stuck q ne = run-stuck s q g'
+      go x q ne = absurd (ne refl)
   run_at_rest_stays s (suc g) g' ne =
       let e : suc g + g' ≡ suc (g + g') = omega arith in ap (λ i. run step halts i s) e ∙ go (halts s) (step s) ne (λ s. run_at_rest_stays s g g')
     where
       go : (w : Option Halt) (x : Next S V) → ((with_one_left s w x (λ s. run step halts g s)).status ≡ running → ⊥) →
           ((s : S) → ((run step halts g s).status ≡ running → ⊥) → run step halts (g + g') s ≡ run step halts g s) →
           with_one_left s w x (λ s. run step halts (g + g') s) ≡ with_one_left s w x (λ s. run step halts g s)
-      go w (ends v) ne ih = refl
-      go (Some w) (goes s') ne ih = refl
       go None (goes s') ne ih = ap one_unit_more (ih s' ne)
-      go w (faults φ p) ne ih = refl
-      go w stuck ne ih = refl
+      go (Some w) (goes s') ne ih = refl
+      go w x ne ih = refl

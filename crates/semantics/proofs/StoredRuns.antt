@@ -9,8 +9,7 @@ use Rattle.semantics.specs.Running.{goes, ends, faults, stuck, Bounds, Halt, hal
 use Rattle.semantics.specs.Machine.{Held, h_number, HeldEnv, ◌◂◌, State, at, MachineNext, step, is_function, cell_is_function, no_room, held_inputs, start, machine_run}
 use Rattle.semantics.specs.Agreement.{Verdict, shown_status}
 use Rattle.semantics.specs.StoredMachine.{Word, w_number, Slot, s_val, s_thunk, s_return, StoreCell, StoredState, at_place, StoredNext, stored_step, slot_is_function, stored_no_room, input_cells, stored_start, stored_run}
-use Rattle.semantics.specs.StoredAgrees.{env_of, cell_of, cells_of, state_of, status_of, StoreFalls, Sound, StandsFor, StoredRunAgrees, StoredStopsStand, StoredGrantsAddUp, StoredRunAtRestStays}
-use Rattle.semantics.proofs.Running.{grants_add_up, run_at_rest_stays}
+use Rattle.semantics.specs.StoredAgrees.{env_of, cell_of, cells_of, state_of, status_of, StoreFalls, Sound, StandsFor, StoredRunAgrees, StoredStopsStand}
 use Rattle.semantics.proofs.Agreement.{verdict_on_run}
 use Rattle.semantics.proofs.Verdicts.{exactly}
 use Rattle.semantics.proofs.LockStep.{sort_held_of, new_cell, steps_in_lock_step}
@@ -95,9 +94,3 @@ stored_run_agrees 𝓜 L cs t g x n =
 
 pub stored_stops_stand : StoredStopsStand
 stored_stops_stand 𝓜 L cs t g = let (e, ok) = stored_run_stands 𝓜 L cs t g in (sym (ap (λ r. r.state) e), ok)
-
-pub stored_grants_add : StoredGrantsAddUp
-stored_grants_add 𝓜 L C s g g' is = grants_add_up (stored_step 𝓜 C) (stored_no_room L C) s g g' is
-
-pub stored_rest_stays : StoredRunAtRestStays
-stored_rest_stays 𝓜 L C s g g' ne = run_at_rest_stays (stored_step 𝓜 C) (stored_no_room L C) s g g' ne

@@ -11,9 +11,6 @@ Closed s = (k : ℕ) (τ : List Term) → fill k τ s ≡ s
 abbrev pub AllClosed : List Term → Type 0
 AllClosed σ = (i : ℕ) → Closed (term_at σ i)
 
-ap₃ : {A B C D : Type 0} (f : A → B → C → D) {x x' : A} {y y' : B} {z z' : C} → x ≡ x' → y ≡ y' → z ≡ z' → f x y z ≡ f x' y' z'
-ap₃ f p q r = λ i. f (p i) (q i) (r i)
-
 fill_var-closed : (F : Term → Term) (σ τ : List Term) → ((i : ℕ) → F (term_at σ i) ≡ term_at σ i) → (kept : Term) (j k i : ℕ) → j ≤ k →
     F kept ≡ fill_var k τ kept i → F (fill_var j σ kept i) ≡ fill_var j σ kept i
 fill_var-closed F σ τ h kept zero k i le q = h i
@@ -31,7 +28,7 @@ fill-closed σ h (eq l r) j k τ le = ap₂ eq (fill-closed σ h l j k τ le) (f
 fill-closed σ h (app f a) j k τ le = ap₂ app (fill-closed σ h f j k τ le) (fill-closed σ h a j k τ le)
 fill-closed σ h (lam x b) j k τ le = ap (lam x) (fill-closed σ h b (suc j) (suc k) τ (omega arith))
 fill-closed σ h (let_in x a b) j k τ le = ap₂ (let_in x) (fill-closed σ h a j k τ le) (fill-closed σ h b (suc j) (suc k) τ (omega arith))
-fill-closed σ h (if_then c t e) j k τ le = ap₃ if_then (fill-closed σ h c j k τ le) (fill-closed σ h t j k τ le) (fill-closed σ h e j k τ le)
+fill-closed σ h (if_then c t e) j k τ le = cc (fill-closed σ h c j k τ le, fill-closed σ h t j k τ le, fill-closed σ h e j k τ le)
 
 -- Shown values are closed.
 mutual
@@ -62,7 +59,7 @@ fill-front w σ h (eq l r) k = ap₂ eq (fill-front w σ h l k) (fill-front w σ
 fill-front w σ h (app f a) k = ap₂ app (fill-front w σ h f k) (fill-front w σ h a k)
 fill-front w σ h (lam x b) k = ap (lam x) (fill-front w σ h b (suc k))
 fill-front w σ h (let_in x a b) k = ap₂ (let_in x) (fill-front w σ h a k) (fill-front w σ h b (suc k))
-fill-front w σ h (if_then c t e) k = ap₃ if_then (fill-front w σ h c k) (fill-front w σ h t k) (fill-front w σ h e k)
+fill-front w σ h (if_then c t e) k = cc (fill-front w σ h c k, fill-front w σ h t k, fill-front w σ h e k)
 
 -- What shows for an environment is what each of its values shows.
 pub term_at-look : (ρ : Env) (i : ℕ) → term_at (reify_env ρ) i ≡ reify (look ρ i)

@@ -5,11 +5,9 @@ use Rattle.domain.specs.Meaning.{Meaning}
 use Rattle.semantics.specs.Terms.{Term}
 use Rattle.semantics.specs.Substitution.{reify}
 use Rattle.semantics.specs.Running.{Bounds, Halt, Status, ended, failed, halted}
-use Rattle.semantics.specs.Machine.{State, step, no_room, start, Steps}
-use Rattle.semantics.specs.Agreement.{RoomFor, Verdict, is_ended, is_failed, is_halted, is_running, RunAgrees, GrantsAddUp, RunAtRestStays}
-use Rattle.semantics.proofs.Clash.{clash}
+use Rattle.semantics.specs.Machine.{State, no_room, start, Steps}
+use Rattle.semantics.specs.Agreement.{RoomFor, Verdict, is_ended, is_failed, is_halted, is_running, RunAgrees}
 use Rattle.semantics.proofs.OneOutcome.{unique}
-use Rattle.semantics.proofs.Running.{grants_add_up, run_at_rest_stays}
 use Rattle.semantics.proofs.Room.{steps_lead_to_one}
 use Rattle.semantics.proofs.Agreement.{verdict_on_run}
 
@@ -20,7 +18,7 @@ module _ (𝓜 : Meaning) (L : Bounds) (cs : List ℕ) (t : Term) (g : ℕ) wher
     where
       go : Dec (n ≤ n') → n ≤ n'
       go (yes le) = le
-      go (no gt) = let e : no_room L s ≡ None = R n' s (omega arith) d in clash cc
+      go (no gt) = let e : no_room L s ≡ None = R n' s (omega arith) d in cc
 
   -- A run halts once.
   one_halt : {n n' : ℕ} {s s' : State} {w w' : Halt} → RoomFor 𝓜 L (start t cs) n → Steps 𝓜 n (start t cs) s → no_room L s ≡ Some w →
@@ -40,10 +38,10 @@ module _ (𝓜 : Meaning) (L : Bounds) (cs : List ℕ) (t : Term) (g : ℕ) wher
   one_verdict : {x x' : Status Term} {n n' : ℕ} → Verdict 𝓜 L cs t g x n → Verdict 𝓜 L cs t g x' n' → (x ≡ x') × (n ≡ n')
   one_verdict (is_ended {v = v} e l R) (is_ended {v = v'} e' l' R') =
       let (q, m) = unique 𝓜 e e' in let qv : v ≡ v' = cc in (ap (λ v. ended (reify v)) qv, m)
-  one_verdict (is_ended e l R) (is_failed e' l' R') = let q = (unique 𝓜 e e').0 in clash cc
+  one_verdict (is_ended e l R) (is_failed e' l' R') = let q = (unique 𝓜 e e').0 in cc
   one_verdict (is_ended e l R) (is_halted l' d h R' no-outcome) = let i = no-outcome _ _ e in let j = room_until R d h in absurd (omega arith)
   one_verdict (is_ended e l R) (is_running no-outcome R') = let i = no-outcome _ _ e in absurd (omega arith)
-  one_verdict (is_failed e l R) (is_ended e' l' R') = let q = (unique 𝓜 e e').0 in clash cc
+  one_verdict (is_failed e l R) (is_ended e' l' R') = let q = (unique 𝓜 e e').0 in cc
   one_verdict (is_failed {φ = φ} {p = p} e l R) (is_failed {φ = φ'} {p = p'} e' l' R') =
       let (q, m) = unique 𝓜 e e' in let qf : φ ≡ φ' = cc in let qp : p ≡ p' = cc in (ap₂ failed qf qp, m)
   one_verdict (is_failed e l R) (is_halted l' d h R' no-outcome) = let i = no-outcome _ _ e in let j = room_until R d h in absurd (omega arith)
@@ -63,9 +61,3 @@ module _ (𝓜 : Meaning) (L : Bounds) (cs : List ℕ) (t : Term) (g : ℕ) wher
 
 pub run_agrees : RunAgrees
 run_agrees 𝓜 L cs t g x n = exactly 𝓜 L cs t g (verdict_on_run 𝓜 L cs t g) x n
-
-pub grants_add : GrantsAddUp
-grants_add 𝓜 L s g g' is = grants_add_up (step 𝓜) (no_room L) s g g' is
-
-pub rest_stays : RunAtRestStays
-rest_stays 𝓜 L s g g' ne = run_at_rest_stays (step 𝓜) (no_room L) s g g' ne

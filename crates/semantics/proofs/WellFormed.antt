@@ -20,8 +20,6 @@ bears_further (y ∷ inner) outer zero x h = h
 bears_further (y ∷ inner) outer (suc i) x h = bears_further inner outer i x h
 
 scope_further : (inner outer : List ℕ) (t : Term) → InScope inner t → InScope (inner ++ outer) t
-scope_further inner outer (num c) h = tt
-scope_further inner outer (truth b) h = tt
 scope_further inner outer (var x i) h = bears_further inner outer i x h
 scope_further inner outer (binop o l r) h = (scope_further inner outer l h.0, scope_further inner outer r h.1)
 scope_further inner outer (eq l r) h = (scope_further inner outer l h.0, scope_further inner outer r h.1)
@@ -30,6 +28,7 @@ scope_further inner outer (lam x b) h = scope_further (x ∷ inner) outer b h
 scope_further inner outer (let_in x a b) h = (scope_further inner outer a h.0, scope_further (x ∷ inner) outer b h.1)
 scope_further inner outer (if_then c t e) h =
     (scope_further inner outer c h.0, scope_further inner outer t h.1, scope_further inner outer e h.2)
+scope_further inner outer t h = tt
 
 -- A variable is kept where an inner name holds it, and replaced otherwise.
 filled_var_in_scope : (P : Term → Type 0) (inner outer : List ℕ) (σ : List Term) → ((j : ℕ) → P (term_at σ j)) → (kept : Term) (i x : ℕ) →
@@ -41,8 +40,6 @@ filled_var_in_scope P (y ∷ inner) outer σ f kept (suc i) x g h = filled_var_i
 -- Terms in scope with no names, filled in for the outer names, leave a term in scope with the inner ones.
 filled_in_scope : (inner outer : List ℕ) (σ : List Term) → ((j : ℕ) → InScope [] (term_at σ j)) → (t : Term) → InScope (inner ++ outer) t →
     InScope inner (fill (length inner) σ t)
-filled_in_scope inner outer σ f (num c) h = tt
-filled_in_scope inner outer σ f (truth b) h = tt
 filled_in_scope inner outer σ f (var x i) h =
     filled_var_in_scope (InScope inner) inner outer σ (λ j. scope_further [] inner (term_at σ j) (f j)) (var x i) i x (λ b. b) h
 filled_in_scope inner outer σ f (binop o l r) h = (filled_in_scope inner outer σ f l h.0, filled_in_scope inner outer σ f r h.1)
@@ -52,6 +49,7 @@ filled_in_scope inner outer σ f (lam x b) h = filled_in_scope (x ∷ inner) out
 filled_in_scope inner outer σ f (let_in x a b) h = (filled_in_scope inner outer σ f a h.0, filled_in_scope (x ∷ inner) outer σ f b h.1)
 filled_in_scope inner outer σ f (if_then c t e) h =
     (filled_in_scope inner outer σ f c h.0, filled_in_scope inner outer σ f t h.1, filled_in_scope inner outer σ f e h.2)
+filled_in_scope inner outer σ f t h = tt
 
 module _ (𝓜 : Meaning) where
   -- Lawful terms, filled in, keep the numbers lawful.

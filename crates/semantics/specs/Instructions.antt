@@ -3,7 +3,8 @@ use Rattle.std.specs.Prelude.{ℕ, suc}
 use Rattle.semantics.specs.declared.layout.Instr.{Instr}
 use Rattle.semantics.specs.declared.layout.Instruction.{Instruction}
 use Rattle.semantics.specs.declared.layout.Instruction.TheVariants.{End, PushNum, PushTruth, Access, PushClosure, PushThunk, Operate, Compare, Bind, Unbind, Apply, Return, Choose}
-use Rattle.semantics.specs.Listing.{bit, op_number}
+use Rattle.domain.specs.Numbers.{op_number}
+use Rattle.semantics.specs.Listing.{bit}
 
 -- The kinds of instructions.
 abbrev pub kind_end : ℕ

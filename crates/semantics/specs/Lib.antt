@@ -9,6 +9,9 @@ pub mod Substitution
 pub mod Instructions
 pub mod Translation
 pub mod Sizes
+pub mod Kinds
+pub mod Label
+pub mod Instruction
 pub mod Running
 pub mod Machine
 pub mod Showing

@@ -1,7 +1,6 @@
 -- Listings: a term as a row of records, each node before its children.
 use Rattle.std.specs.Prelude.{ℕ, suc, Bool, true, false, List, [], ◌∷◌}
-use Rattle.domain.specs.declared.Op.{Op}
-use Rattle.domain.specs.declared.Op.TheVariants.{Add, Sub, Mul, Div}
+use Rattle.domain.specs.Numbers.{op_number}
 use Rattle.semantics.specs.declared.layout.Node.{Node}
 use Rattle.semantics.specs.declared.layout.Label.{Label}
 use Rattle.semantics.specs.declared.layout.Label.TheVariants.{Num, Truth, Var, Binop, Eq, App, Lam, Let, If}
@@ -11,13 +10,6 @@ use Rattle.semantics.specs.Terms.{Term, num, truth, var, binop, eq, app, lam, le
 abbrev pub bit : Bool → ℕ
 bit false = 0
 bit true = 1
-
--- An operation as a number.
-abbrev pub op_number : Op → ℕ
-op_number Add = 1
-op_number Sub = 2
-op_number Mul = 3
-op_number Div = 4
 
 -- The kinds of nodes.
 abbrev pub kind_num : ℕ

@@ -7,7 +7,7 @@ use Rattle.semantics.specs.declared.layout.Instruction.{Instruction}
 use Rattle.semantics.specs.declared.layout.Instruction.TheVariants.{End, PushNum, PushTruth, Access, PushClosure, PushThunk, Operate, Compare, Bind, Unbind, Apply, Return, Choose}
 use Rattle.semantics.specs.Terms.{Term}
 use Rattle.semantics.specs.Scope.{InScope}
-use Rattle.semantics.specs.Listing.{op_number}
+use Rattle.domain.specs.Numbers.{op_number}
 use Rattle.semantics.specs.Instructions.{kind_end, kind_push_num, kind_push_truth, kind_access, kind_closure, kind_thunk, kind_operate, kind_compare, kind_bind, kind_unbind, kind_apply, kind_return, encode}
 use Rattle.semantics.specs.Translation.{translate}
 use Rattle.semantics.specs.Showing.{read}

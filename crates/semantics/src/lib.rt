@@ -4,6 +4,9 @@
 
 pub mod code;
 pub mod evaluation;
+pub mod instruction;
+pub mod kind;
+pub mod label;
 pub mod layout;
 pub mod listing;
 pub mod reductions;

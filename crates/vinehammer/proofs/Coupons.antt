@@ -1,5 +1,5 @@
 -- What accrues in whole numbers is exact.
-use Rattle.std.proofs.Common.{◌≡◌, ℕ, true, false, ℤ, ◌+ℤ◌, ◌-ℤ◌, ◌*ℤ◌, IfOk, Ok, Err, Result, sym, refl, ap, ◌∙◌, subst, arith}
+use Rattle.std.proofs.Common.{◌≡◌, ℕ, ℤ, ◌-ℤ◌, ◌*ℤ◌, IfOk, Ok, Err, Result, sym, refl, ap, ◌∙◌}
 use lib.IntN.{+ℤ_comm, +ℤ-neg_ℤ_cancel}
 use lib.Signed.{quot_z, rem_z}
 use Rattle.domain.specs.declared.Op.{Op}
@@ -7,7 +7,7 @@ use Rattle.domain.specs.declared.Op.TheVariants.{Sub, Mul, Div}
 use Rattle.domain.specs.declared.Fault.{Fault}
 use Rattle.domain.specs.Screen.{screen}
 use Rattle.domain.proofs.Layering.{screen_code}
-use Rattle.whole.specs.Numbers.{number_of, exact, is_zero}
+use Rattle.whole.specs.Numbers.{number_of, exact}
 use Rattle.whole.specs.Laws.{Truncates}
 use Rattle.whole.specs.Whole.{whole}
 use Rattle.whole.proofs.Division.{div_drops_toward_zero}
@@ -23,7 +23,7 @@ desk = screen whole
 -- A step that was gone on from has answered.
 answered : {A B : Type 0} (x : Result A Fault) (next : A → Result B Fault) (b : B) → and_then x next ≡ Ok b → (a : A) × (x ≡ Ok a) × (next a ≡ Ok b)
 answered (Ok a) next b h = (a, refl, h)
-answered (Err f) next b h = let z : ◌≡◌ {A = ℕ} 0 1 = cc in absurd (omega arith)
+answered (Err f) next b h = cc
 
 -- A code that the screened domain answers is that of the exact result.
 step-exact : (op : Op) (a b n : ℕ) → (screen whole).table op a b ≡ Ok n → number_of n ≡ exact op (number_of a) (number_of b)
@@ -49,7 +49,7 @@ split-exact total basis a h =
     let e : a ≡ record { amount = amount; dropped = rest.0 } = cc in
     let paid_out : quot_z x y ≡ number_of a.amount = sym (ap (λ r. number_of r.amount) e ∙ q) in
     let kept_back : rem_z x y ≡ number_of a.dropped = sym (ap (λ r. number_of r.dropped) e ∙ d) in
-    subst (λ z. Truncates x y z (number_of a.dropped)) paid_out (subst (λ z. Truncates x y (quot_z x y) z) kept_back t)
+    rw (← paid_out, ← kept_back) t
 
 whole-exact : (c : Coupon) (a : Accrued) → accrued_by desk c ≡ Ok a → Exact c a
 whole-exact c a h =
@@ -58,7 +58,7 @@ whole-exact c a h =
     let t = split-exact s₂.0 c.basis a s₂.2 in
     let y = step-exact Mul c.face c.rate s₁.0 s₁.1 in
     let x = step-exact Mul s₁.0 c.days s₂.0 s₂.1 ∙ ap (λ z. z *ℤ number_of c.days) y in
-    subst (λ z. Truncates z (number_of c.basis) (number_of a.amount) (number_of a.dropped)) x t
+    rw (← x) t
 
 pub accrued_exact : (c : Coupon) (r : Result Accrued Fault) → r ≡ accrued_by (screen whole) c → IfOk r (λ a. Exact c a)
 accrued_exact c (Ok a) h = whole-exact c a (sym h)

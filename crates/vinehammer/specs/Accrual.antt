@@ -1,5 +1,5 @@
 -- Accrued interest: face times rate times days, divided by the basis.
-use Rattle.std.specs.Prelude.{◌≡◌, ℕ, ◌*ℤ◌, Ok, Err, Result}
+use Rattle.std.specs.Prelude.{ℕ, ◌*ℤ◌, Ok, Err, Result}
 use Rattle.domain.specs.declared.Op.TheVariants.{Sub, Mul, Div}
 use Rattle.domain.specs.declared.Fault.{Fault}
 use Rattle.domain.specs.Meaning.{Meaning}

@@ -1,4 +1,6 @@
 //! A coupon formula with "start" bound twice: once for the leg and once for the stub.
+use domain::Op;
+use semantics::kind::NodeKind;
 use semantics::layout::Node;
 
 /// What the formula says.
@@ -17,28 +19,16 @@ const START: u16 = 8;
 
 const LEG: u16 = 9;
 
-const fn var(name: u16, number: u64) -> Node {
-    Node {
-        kind: 3,
-        name,
-        number,
-    }
+fn var(name: u16, index: u64) -> Node {
+    Node::new(NodeKind::Var, name, index)
 }
 
-const fn op(number: u64) -> Node {
-    Node {
-        kind: 4,
-        name: 0,
-        number,
-    }
+fn op(op: Op) -> Node {
+    Node::new(NodeKind::Binop, 0, u64::from(op))
 }
 
-const fn bind(name: u16) -> Node {
-    Node {
-        kind: 8,
-        name,
-        number: 0,
-    }
+fn bind(name: u16) -> Node {
+    Node::new(NodeKind::Let, name, 0)
 }
 
 /// Its listing: the index of a variable decides which "start" it is.
@@ -47,25 +37,25 @@ pub fn listing() -> [Node; 25] {
         bind(START),
         var(4, 4),
         bind(LEG),
-        op(4),
-        op(3),
-        op(3),
+        op(Op::Div),
+        op(Op::Mul),
+        op(Op::Mul),
         var(1, 2),
         var(2, 3),
-        op(2),
+        op(Op::Sub),
         var(5, 6),
         var(START, 1),
         var(3, 4),
         bind(START),
         var(6, 8),
-        op(1),
+        op(Op::Add),
         var(LEG, 2),
-        op(4),
-        op(3),
-        op(3),
+        op(Op::Div),
+        op(Op::Mul),
+        op(Op::Mul),
         var(1, 4),
         var(2, 5),
-        op(2),
+        op(Op::Sub),
         var(7, 10),
         var(START, 1),
         var(3, 6),

@@ -8,15 +8,15 @@ mod text;
 
 use accrual::{Accrued, Coupon, accrue, accrue_whole};
 use binary64::{Binary64, code_of, number_of};
+use domain::Domain;
 use domain::screen::Screen;
-use domain::{Domain, Fault};
 use formulas::print_formula;
-use std::io;
-use text::{Cents, Reason};
+use std::{fmt, io};
+use text::Cents;
 use whole::Whole;
 
 /// Basis points in one: the scale of a rate in whole numbers.
-const BASIS_POINTS: u64 = 10_000;
+const BASIS_POINTS: u16 = 10_000;
 
 /// A coupon's terms as a desk writes them.
 #[derive(Clone, Copy)]
@@ -35,23 +35,35 @@ const TERMS: Terms = Terms {
     year_days: 360,
 };
 
-fn in_whole_cents(terms: &Terms) -> Coupon {
-    Coupon {
-        face: terms.face_cents as u64,
-        rate: terms.rate_points as u64,
-        days: terms.days as u64,
-        basis: terms.year_days as u64 * BASIS_POINTS,
+impl Terms {
+    fn in_whole_cents(&self) -> Coupon {
+        Coupon {
+            face: u64::from(self.face_cents),
+            rate: u64::from(self.rate_points),
+            days: u64::from(self.days),
+            basis: u64::from(self.year_days) * u64::from(BASIS_POINTS),
+        }
+    }
+
+    /// The same coupon on a face of one, so that what accrues is a rate.
+    fn as_a_rate(&self) -> Option<Coupon> {
+        Some(Coupon {
+            face: code_of(1.0)?,
+            rate: code_of(f64::from(self.rate_points) / f64::from(BASIS_POINTS))?,
+            days: code_of(f64::from(self.days))?,
+            basis: code_of(f64::from(self.year_days))?,
+        })
     }
 }
 
-/// The same coupon on a face of one, so that what accrues is a rate.
-fn as_a_rate(terms: &Terms) -> Option<Coupon> {
-    Some(Coupon {
-        face: code_of(1.0)?,
-        rate: code_of(terms.rate_points as f64 / 10_000.0)?,
-        days: code_of(terms.days as f64)?,
-        basis: code_of(terms.year_days as f64)?,
-    })
+impl fmt::Display for Terms {
+    fn fmt<W: fmt::Write>(&self, f: &mut fmt::Formatter<W>) -> fmt::Result {
+        let face = Cents(i64::from(self.face_cents));
+        let rate = self.rate_points;
+        let days = self.days;
+        let year = self.year_days;
+        write!(f, "{face} at {rate} basis points for {days} of {year} days")
+    }
 }
 
 fn print_whole(rt: &HostRuntime, coupon: &Coupon) -> io::Result<()> {
@@ -63,7 +75,7 @@ fn print_whole(rt: &HostRuntime, coupon: &Coupon) -> io::Result<()> {
             let paid = Cents(amount.cast_signed());
             println!(rt; "  accrued {paid}, and {dropped}/{basis} of a cent dropped")
         }
-        Err(fault) => print_fault(rt, fault),
+        Err(fault) => println!(rt; "  no answer: {fault}"),
     }
 }
 
@@ -78,24 +90,15 @@ fn print_rate(rt: &HostRuntime, coupon: &Coupon) -> io::Result<()> {
             }
             Ok(())
         }
-        Err(fault) => print_fault(rt, fault),
+        Err(fault) => println!(rt; "  no answer: {fault}"),
     }
 }
 
-fn print_fault(rt: &HostRuntime, fault: Fault) -> io::Result<()> {
-    let reason = Reason(fault);
-    println!(rt; "  no answer: {reason}")
-}
-
 fn main(rt: HostRuntime) -> io::Result<()> {
-    let face = Cents(TERMS.face_cents as i64);
-    let rate = TERMS.rate_points;
-    let days = TERMS.days;
-    let year = TERMS.year_days;
-    println!(rt; "coupon on {face} at {rate} basis points for {days} of {year} days")?;
-    let coupon = in_whole_cents(&TERMS);
+    println!(rt; "coupon on {TERMS}")?;
+    let coupon = TERMS.in_whole_cents();
     print_whole(&rt, &coupon)?;
-    if let Some(rates) = as_a_rate(&TERMS) {
+    if let Some(rates) = TERMS.as_a_rate() {
         print_rate(&rt, &rates)?;
     }
     println!(rt; "the same with a year of no days:")?;

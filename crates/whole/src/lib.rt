@@ -3,10 +3,10 @@
 
 pub mod laws;
 
-ghost use Rattle.std.specs.Prelude.{◌≡◌, ◌*ℤ◌, if◌then◌else◌, Some, None, int_div};
+ghost use Rattle.std.specs.Prelude.{◌≡◌, if◌then◌else◌, Some, None, int_div};
 ghost use Rattle.std.specs.Int.{saturate_to_bits};
-ghost use Rattle.domain.specs.Bottom.{settled};
-ghost use Rattle.whole.specs.Numbers.{answer, code_of, in_range, is_zero};
+ghost use Rattle.domain.specs.Bottom.{divides_by_zero};
+ghost use Rattle.whole.specs.Numbers.{answer, code_of, exact, in_range, is_zero};
 ghost use Rattle.whole.specs.Whole.{whole};
 
 use domain::{BOTTOM_HEIGHT, Cause, Domain, Fault, Op};
@@ -22,44 +22,23 @@ pub struct Whole;
 fn is_in_range(x: i64) -> bool
     ensures { result ≡ in_range x }
 {
-    -LIMIT <= x && x <= LIMIT
+    (-LIMIT..=LIMIT).contains(&x)
 }
 
-/// The code of a result in the range. A result past 64 bits comes here saturated, which is past the range too.
-fn settle(z: i64) -> Result<u64, Fault>
-    ensures { result ≡ settled (in_range z) (code_of z) }
+/// The code of a number, where it is in the range.
+fn code_of(z: i64) -> Option<u64>
+    ensures { result ≡ (if in_range z then Some (code_of z) else None) }
 {
-    if is_in_range(z) {
-        Ok(z.cast_unsigned())
-    } else {
-        Err(Fault::new(Cause::UnlawfulResult, BOTTOM_HEIGHT))
-    }
+    is_in_range(z).then_some(z.cast_unsigned())
 }
 
-/// The 64-bit number nearest to a number of 128 bits.
-fn saturate(z: i128) -> i64
-    ensures { result ≡ saturate_to_bits 63 z }
-{
-    if z > i64::MAX as i128 {
-        i64::MAX
-    } else if z < i64::MIN as i128 {
-        i64::MIN
-    } else {
-        z as i64
-    }
-}
-
-/// The product, saturated: that of two 64-bit numbers has at most 128 bits.
-fn product(x: i64, y: i64) -> i64
-    ensures { result ≡ saturate_to_bits 63 (x *ℤ y) }
-{
-    saturate(x as i128 * y as i128)
-}
+// Here and below two amounts stand in a row, as an operation has them: a struct would be taken apart in each function.
 
 /// The quotient with its fraction dropped, or nothing at a zero divisor.
 fn quotient(x: i64, y: i64) -> Option<i64>
     ensures { result ≡ (if is_zero y then None else Some (saturate_to_bits 63 (int_div x y))) }
 {
+    // Written out by the divisor's sign and zero, the form that DECISIONS.md lists.
     match y {
         0 => None,
         -1 => Some(0i64.saturating_sub(x)),
@@ -67,20 +46,26 @@ fn quotient(x: i64, y: i64) -> Option<i64>
     }
 }
 
-fn work_out(op: Op, x: i64, y: i64) -> Result<u64, Fault>
-    ensures { result ≡ answer op x y }
+/// The exact result, or nothing at a zero divisor. A result past 64 bits is saturated, which is past the range too.
+fn saturated_result(op: Op, x: i64, y: i64) -> Option<i64>
+    ensures { result ≡ (if divides_by_zero op (is_zero y) then None else Some (saturate_to_bits 63 (exact op x y))) }
 {
     match op {
-        Op::Add => settle(x.saturating_add(y)),
-        Op::Sub => settle(x.saturating_sub(y)),
-        Op::Mul => settle(product(x, y)),
-        Op::Div => match quotient(x, y) {
-            Some(z) => settle(z),
-            None => Err(Fault::new(Cause::ZeroDivisor, BOTTOM_HEIGHT)),
-        },
+        Op::Add => Some(x.saturating_add(y)),
+        Op::Sub => Some(x.saturating_sub(y)),
+        Op::Mul => Some(x.saturating_mul(y)),
+        Op::Div => quotient(x, y),
     }
 }
 
+fn work_out(op: Op, x: i64, y: i64) -> Result<u64, Fault>
+    ensures { result ≡ answer op x y }
+{
+    let z = saturated_result(op, x, y).ok_or(Fault::new(Cause::ZeroDivisor, BOTTOM_HEIGHT))?;
+    code_of(z).ok_or(Fault::new(Cause::UnlawfulResult, BOTTOM_HEIGHT))
+}
+
+// Sameness by code and the bottom's height are as in Binary64: a shared function would be as long as what it stands for.
 impl Domain for Whole {
     ghost meaning = { λ _. whole };
 

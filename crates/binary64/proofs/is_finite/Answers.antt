@@ -1,5 +1,6 @@
+use Rattle.std.proofs.Common.{arith}
 use Rattle.binary64.proofs.Patterns.{pattern_finite}
 use Rattle.binary64.proofs.is_finite.Goals as goal
 
 pub returns : goal.returns
-returns c = pattern_finite c.args.code
+returns c = grind (arith, pattern_finite)

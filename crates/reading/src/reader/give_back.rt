@@ -9,6 +9,8 @@ use crate::write::write;
 use semantics::layout::{Instruction, MOST_INSTRUCTIONS, MOST_NAMES, Node};
 
 impl Reader {
+    // A code and the count of its inputs come from two places of the caller, and stand together in these calls alone.
+
     /// Leaves the listing of the term that a code reads as in `records`, where it fits the room.
     pub fn list(
         &mut self,
@@ -16,24 +18,22 @@ impl Reader {
         inputs: usize,
         room: usize,
     ) -> Result<usize, Unread>
-        ensures listed { Listed (reads_as code.now inputs) self.new.records.items (min room most_written) result }
+        ensures listed { Listed (reads_as code.now inputs) self.new.records (min room most_written) result }
     {
-        if code.len() > MOST_INSTRUCTIONS {
+        if code.len() > MOST_INSTRUCTIONS || inputs > MOST_NAMES {
             return Err(Unread::NoTranslation);
         }
-        if inputs > MOST_NAMES {
-            return Err(Unread::NoTranslation);
-        }
-        let Some(root) = self.read(code, inputs) else {
-            return Err(Unread::NoTranslation);
-        };
+        let root = self.read(code, inputs).ok_or(Unread::NoTranslation)?;
         self.stack.clear();
-        self.stack.push_reserved(root);
+        self.stack.push(root);
         self.records.clear();
         let limit = room.min(MOST_WRITTEN);
-        if !write(&self.nodes, &mut self.stack, &mut self.records, limit) {
-            return Err(Unread::NoRoom);
-        }
+        write(
+            self.nodes.as_slice(),
+            &mut self.stack,
+            &mut self.records,
+            limit,
+        )?;
         Ok(self.records.len())
     }
 
@@ -47,7 +47,7 @@ impl Reader {
         ensures { GivenBack (reads_as code.now inputs) out.old out.new result }
     {
         let n = self.list(code, inputs, out.len())?;
-        out[0..n].copy_from_slice(&self.records);
+        out[..n].copy_from_slice(self.records.as_slice());
         Ok(n)
     }
 }

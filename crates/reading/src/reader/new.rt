@@ -1,22 +1,17 @@
 //! A new reader.
-use crate::MOST_WRITTEN;
 use crate::reader::Reader;
-use semantics::layout::MOST_INSTRUCTIONS;
+use bounded::BoundedVec;
 use std::alloc::{AllocError, Global};
 
 impl Reader {
     /// Reserves all that a reader ever needs.
     pub fn new(heap: Global) -> Result<Reader, AllocError> {
-        let nodes = Vec::with_capacity(heap, MOST_INSTRUCTIONS)?;
-        let stack = Vec::with_capacity(heap, MOST_WRITTEN + 3)?;
-        let marks = Vec::with_capacity(heap, MOST_INSTRUCTIONS)?;
-        let records = Vec::with_capacity(heap, MOST_WRITTEN)?;
         Ok(Reader {
-            nodes,
-            stack,
-            marks,
+            nodes: BoundedVec::new(heap)?,
+            stack: BoundedVec::new(heap)?,
+            marks: BoundedVec::new(heap)?,
             scope: 0,
-            records,
+            records: BoundedVec::new(heap)?,
         })
     }
 }

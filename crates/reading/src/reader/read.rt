@@ -1,5 +1,5 @@
 //! Reading a whole code.
-ghost use Rattle.std.specs.Prelude.{◌≡◌, ◌-◌, ◌≤◌, [], length};
+ghost use Rattle.std.specs.Prelude.{◌≡◌, ◌≤◌, [], length};
 ghost use Rattle.semantics.specs.Sizes.{most_instructions, most_names};
 ghost use Rattle.std.specs.Option.{option_map};
 ghost use Rattle.reading.specs.Arena.{term, InArena};
@@ -21,47 +21,38 @@ impl Reader {
         self.nodes.clear();
         self.stack.clear();
         self.marks.clear();
+        // No `From` joins these types, and `as` is proved to lose nothing.
         self.scope = inputs as u64;
-        if code.len() == 0 {
-            return None;
+        let (last, front) = code.split_last()?;
+        for instruction in front {
+            self.step(*instruction)?;
         }
-        let (front, last) = code.split_at(code.len() - 1);
-        for i in 0..front.len() {
-            if !self.step(front[i]) {
-                return None;
-            }
-        }
-        self.root(last[0])
+        self.root(*last)
     }
 
     /// The only node left when END comes last.
+    #[tactic(auto, using(crate::proofs::Turns::open_not_sole))]
     fn root(&self, last: Instruction) -> Option<usize>
         ensures { result ≡ root last (workspace_of self.now) }
     {
-        match (last, self.peek(0), self.peek(1), self.mark()) {
-            (Instruction::End, Some(root), None, None) => Some(root),
-            (_, _, _, _) => None,
+        match (last, self.stack.as_slice(), self.marks.is_empty()) {
+            (Instruction::End, [root], true) => Some(*root),
+            _ => None,
         }
     }
 }
 
 /// The translation of a term in scope reads as that term.
-pub fn reads_translations() -> u8
+pub fn reads_translations()
     ensures { ReadsTranslations }
-{
-    0
-}
+{}
 
 /// A code that reads as a term is shown as that term.
-pub fn reads_as_shown() -> u8
+pub fn reads_as_shown()
     ensures { ReadsAsShown }
-{
-    0
-}
+{}
 
 /// Reading does not look at the places of nodes, which the caller's layout of code does not have.
-pub fn reads_from_layout() -> u8
+pub fn reads_from_layout()
     ensures { ReadsFromLayout }
-{
-    0
-}
+{}

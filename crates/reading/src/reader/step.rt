@@ -1,150 +1,121 @@
 //! Reading one instruction.
-ghost use Rattle.std.specs.Prelude.{◌≡◌, ◌+◌, ◌-◌, ◌<◌, ◌≤◌, true, false, reverse, vec_len, MatchOption};
-ghost use Rattle.std.specs.List.{slice_get};
-ghost use Rattle.semantics.specs.Sizes.{most_instructions, most_names};
-ghost use Rattle.reading.specs.Workspace.{workspace_of, put, opened, closed, performed, answered};
+ghost use Rattle.std.specs.Prelude.{◌≡◌, ◌<◌, ◌∷◌, ◌++◌, [], length, IfSome, IfNone};
+ghost use Rattle.semantics.specs.Sizes.{most_instructions};
+ghost use Rattle.reading.specs.Workspace.{HasRoom, answered, opened, performed, put, workspace_of};
 
+use crate::MOST_WORK;
 use crate::reader::{Mark, Reader, Tree};
+use bounded::BoundedVec;
 use semantics::layout::Instruction;
 
+/// Takes off the two trees on top, the topmost last.
+fn pop_two(stack: &mut BoundedVec<usize, MOST_WORK>) -> Option<(usize, usize)>
+    ensures some { IfSome result (λ two. stack.old ≡ stack.new ++ two.0 ∷ two.1 ∷ []) }
+    ensures none { IfNone result (length stack.old < 2) }
+{
+    let last = stack.pop()?;
+    let first = stack.pop()?;
+    Some((first, last))
+}
+
 impl Reader {
-    /// The n-th unused tree from the top.
-    pub(crate) fn peek(&self, n: usize) -> Option<usize>
-        ensures value { result ≡ slice_get (reverse self.now.stack.items) n }
-        ensures some { MatchOption result (vec_len self.now.stack ≤ n) (λ _. n < vec_len self.now.stack) }
+    /// A new tree on top.
+    fn put(&mut self, tree: Tree)
+        requires nodes { length self.old.nodes < most_instructions }
+        requires stack { length self.old.stack < most_instructions }
+        ensures { workspace_of self.new ≡ put tree (workspace_of self.old) }
     {
-        let len = self.stack.len();
-        if n >= len {
-            return None;
-        }
-        Some(self.stack[len - 1 - n])
+        self.stack.push(self.nodes.len());
+        self.nodes.push(tree);
     }
 
-    /// The mark last opened.
-    pub(crate) fn mark(&self) -> Option<Mark>
-        ensures value { result ≡ slice_get (reverse self.now.marks.items) 0 }
-        ensures some { MatchOption result (vec_len self.now.marks ≤ 0) (λ _. 0 < vec_len self.now.marks) }
+    /// Opens a mark, with so many in scope.
+    fn open(&mut self, mark: Mark, scope: u64)
+        requires { length self.old.marks < most_instructions }
+        ensures { workspace_of self.new ≡ opened mark scope (workspace_of self.old) }
     {
-        let len = self.marks.len();
-        if len == 0 {
-            return None;
-        }
-        Some(self.marks[len - 1])
-    }
-
-    /// A new tree in place of the topmost few.
-    fn put(&mut self, pops: usize, tree: Tree)
-        requires held { pops ≤ vec_len self.old.stack }
-        requires nodes { vec_len self.old.nodes < most_instructions }
-        requires stack { vec_len self.old.stack < most_instructions }
-        ensures reads { workspace_of self.new ≡ put pops tree (workspace_of self.old) }
-        ensures sizes { (vec_len self.new.nodes ≤ vec_len self.old.nodes + 1) × (vec_len self.new.stack ≤ vec_len self.old.stack + 1) × (vec_len self.new.marks ≡ vec_len self.old.marks) × (self.new.scope ≡ self.old.scope) }
-    {
-        let left = self.stack.len() - pops;
-        self.stack.truncate(left);
-        self.stack.push_reserved(self.nodes.len());
-        self.nodes.push_reserved(tree);
-    }
-
-    /// Takes some trees off and opens a mark, with so many in scope.
-    fn open(&mut self, pops: usize, mark: Mark, scope: u64)
-        requires held { pops ≤ vec_len self.old.stack }
-        requires marks { vec_len self.old.marks < most_instructions }
-        ensures reads { workspace_of self.new ≡ opened pops mark scope (workspace_of self.old) }
-        ensures sizes { (vec_len self.new.nodes ≡ vec_len self.old.nodes) × (vec_len self.new.stack ≤ vec_len self.old.stack) × (vec_len self.new.marks ≡ vec_len self.old.marks + 1) × (self.new.scope ≡ scope) }
-    {
-        let left = self.stack.len() - pops;
-        self.stack.truncate(left);
-        self.marks.push_reserved(mark);
+        self.marks.push(mark);
         self.scope = scope;
     }
 
-    /// Closes the mark last opened, with so many in scope then.
-    fn close(&mut self, scope: u64)
-        requires some { 0 < vec_len self.old.marks }
-        ensures reads { workspace_of self.new ≡ closed scope (workspace_of self.old) }
-        ensures sizes { (vec_len self.new.nodes ≡ vec_len self.old.nodes) × (vec_len self.new.stack ≡ vec_len self.old.stack) × (vec_len self.new.marks ≤ vec_len self.old.marks) × (self.new.scope ≡ scope) }
+    // That a reader has room is asked of three functions: a reader that has read its most has none, so no invariant says it.
+
+    /// ENDLET makes a tree of the Let last opened and of the body on top.
+    fn close_let(&mut self) -> Option<()>
+        requires { HasRoom self.old }
+        ensures { answered result (workspace_of self.new) ≡ performed Instruction.Unbind (workspace_of self.old) }
     {
-        let left = self.marks.len() - 1;
-        self.marks.truncate(left);
-        self.scope = scope;
+        let body = self.stack.pop()?;
+        let Some(Mark::Let { name, bound }) = self.marks.pop() else {
+            return None;
+        };
+        self.scope = self.scope.saturating_sub(1);
+        self.put(Tree::Let { name, bound, body });
+        Some(())
     }
 
-    /// Reads one instruction; false where it does not fit. END is not for here.
-    pub(crate) fn step(&mut self, instruction: Instruction) -> bool
-        requires nodes { vec_len self.old.nodes < most_instructions }
-        requires stack { vec_len self.old.stack < most_instructions }
-        requires marks { vec_len self.old.marks < most_instructions }
-        requires scope { self.old.scope < most_names + most_instructions }
-        ensures reads { answered result (workspace_of self.new) ≡ performed instruction (workspace_of self.old) }
-        ensures sizes { (vec_len self.new.nodes ≤ vec_len self.old.nodes + 1) × (vec_len self.new.stack ≤ vec_len self.old.stack + 1) × (vec_len self.new.marks ≤ vec_len self.old.marks + 1) × (self.new.scope ≤ self.old.scope + 1) }
+    /// RETURN closes the body last opened: a Lambda's becomes its tree, a thunk's stays as it is.
+    fn close_body(&mut self) -> Option<()>
+        requires { HasRoom self.old }
+        ensures { answered result (workspace_of self.new) ≡ performed Instruction.Return (workspace_of self.old) }
     {
-        match (
-            instruction,
-            self.peek(0),
-            self.peek(1),
-            self.peek(2),
-            self.mark(),
-        ) {
-            (Instruction::PushNum(code), _, _, _, _) => {
-                self.put(0, Tree::Num(code));
-                true
+        let body = self.stack.pop()?;
+        match self.marks.pop()? {
+            Mark::Lambda { name } => {
+                self.scope = self.scope.saturating_sub(1);
+                self.put(Tree::Lam { name, body });
             }
-            (Instruction::PushTruth(truth), _, _, _, _) => {
-                self.put(0, Tree::Truth(truth));
-                true
-            }
-            (Instruction::Access { name, between }, _, _, _, _) => {
+            Mark::Thunk => self.stack.push(body),
+            Mark::Let { .. } => return None,
+        }
+        Some(())
+    }
+
+    /// Reads one instruction, where it fits. END is not for here.
+    pub(crate) fn step(&mut self, instruction: Instruction) -> Option<()>
+        requires { HasRoom self.old }
+        ensures { answered result (workspace_of self.new) ≡ performed instruction (workspace_of self.old) }
+    {
+        match instruction {
+            Instruction::End => return None,
+            Instruction::PushNum(code) => self.put(Tree::Num(code)),
+            Instruction::PushTruth(truth) => self.put(Tree::Truth(truth)),
+            Instruction::Access { name, between } => {
                 if between >= self.scope {
-                    return false;
+                    return None;
                 }
                 let index = between + 1;
-                self.put(0, Tree::Var { name, index });
-                true
+                self.put(Tree::Var { name, index });
             }
-            (Instruction::PushClosure { name, .. }, _, _, _, _) => {
-                self.open(0, Mark::Lambda { name }, self.scope + 1);
-                true
+            Instruction::PushClosure { name, .. } => {
+                self.open(Mark::Lambda { name }, self.scope + 1)
             }
-            (Instruction::PushThunk { .. }, _, _, _, _) => {
-                self.open(0, Mark::Thunk, self.scope);
-                true
+            Instruction::PushThunk { .. } => self.open(Mark::Thunk, self.scope),
+            // Three arms make a tree of the two on top: a method over a closure that makes it would say the same in more words.
+            Instruction::Operate { op, .. } => {
+                let (left, right) = pop_two(&mut self.stack)?;
+                self.put(Tree::Binop { op, left, right });
             }
-            (Instruction::Operate { op, .. }, Some(right), Some(left), _, _) => {
-                self.put(2, Tree::Binop { op, left, right });
-                true
+            Instruction::Compare { .. } => {
+                let (left, right) = pop_two(&mut self.stack)?;
+                self.put(Tree::Eq { left, right });
             }
-            (Instruction::Compare { .. }, Some(right), Some(left), _, _) => {
-                self.put(2, Tree::Eq { left, right });
-                true
+            Instruction::Bind { name } => {
+                let bound = self.stack.pop()?;
+                self.open(Mark::Let { name, bound }, self.scope + 1);
             }
-            (Instruction::Bind { name }, Some(bound), _, _, _) => {
-                self.open(1, Mark::Let { name, bound }, self.scope + 1);
-                true
+            Instruction::Unbind => self.close_let()?,
+            Instruction::Apply { .. } => {
+                let (function, argument) = pop_two(&mut self.stack)?;
+                self.put(Tree::App { function, argument });
             }
-            (Instruction::Unbind, Some(body), _, _, Some(Mark::Let { name, bound })) => {
-                self.close(self.scope.saturating_sub(1));
-                self.put(1, Tree::Let { name, bound, body });
-                true
+            Instruction::Return => self.close_body()?,
+            Instruction::Choose { .. } => {
+                let condition = self.stack.pop()?;
+                let (yes, no) = pop_two(&mut self.stack)?;
+                self.put(Tree::If { condition, yes, no });
             }
-            (Instruction::Apply { .. }, Some(argument), Some(function), _, _) => {
-                self.put(2, Tree::App { function, argument });
-                true
-            }
-            (Instruction::Return, Some(body), _, _, Some(Mark::Lambda { name })) => {
-                self.close(self.scope.saturating_sub(1));
-                self.put(1, Tree::Lam { name, body });
-                true
-            }
-            (Instruction::Return, Some(_), _, _, Some(Mark::Thunk)) => {
-                self.close(self.scope);
-                true
-            }
-            (Instruction::Choose { .. }, Some(condition), Some(no), Some(yes), _) => {
-                self.put(3, Tree::If { condition, yes, no });
-                true
-            }
-            (_, _, _, _, _) => false,
         }
+        Some(())
     }
 }

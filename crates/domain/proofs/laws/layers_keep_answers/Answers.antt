@@ -1,10 +1,8 @@
-use Rattle.domain.proofs.Layering.{screen_layer, faults_pass, heights_rise, screen_below}
+use Rattle.domain.proofs.Layering.{faults_pass, heights_rise}
 use Rattle.domain.proofs.laws.layers_keep_answers.Goals as goal
 
-pub returns : goal.returns
-returns c = record {
-  layer = screen_layer;
-  faults = λ m u n s. faults_pass s;
-  heights = λ m u n s. heights_rise s;
-  below = screen_below;
-}
+pub returns-clause-faults : goal.returns-clause-faults
+returns-clause-faults c = λ m u n s. faults_pass s
+
+pub returns-clause-heights : goal.returns-clause-heights
+returns-clause-heights c = λ m u n s. heights_rise s

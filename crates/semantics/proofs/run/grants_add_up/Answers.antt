@@ -1,5 +1,6 @@
-use Rattle.semantics.proofs.Verdicts.{grants_add}
+use Rattle.semantics.specs.Machine.{step, no_room}
+use Rattle.semantics.proofs.Running.{grants_add_up}
 use Rattle.semantics.proofs.run.grants_add_up.Goals as goal
 
 pub returns : goal.returns
-returns c = grants_add
+returns c 𝓜 L = grants_add_up (step 𝓜) (no_room L)

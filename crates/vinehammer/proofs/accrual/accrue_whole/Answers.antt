@@ -1,8 +1,5 @@
 use Rattle.vinehammer.proofs.Coupons.{accrued_exact}
 use Rattle.vinehammer.proofs.accrual.accrue_whole.Goals as goal
 
-pub returns : goal.returns
-returns c = record {
-  steps = c.accrue.ensures;
-  exact = accrued_exact c.args.coupon.now c.accrue.result c.accrue.ensures;
-}
+pub returns-clause-exact : goal.returns-clause-exact
+returns-clause-exact c = accrued_exact c.args.coupon.now c.accrue.result c.accrue.ensures

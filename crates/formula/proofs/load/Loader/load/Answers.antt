@@ -2,12 +2,6 @@ use Rattle.std.proofs.Common.{length, sym, ap, ◌∙◌}
 use Rattle.formula.proofs.Decides.{check_decides}
 use Rattle.formula.proofs.load.Loader.load.Goals as goal
 
--- A listing that passes is not too long.
-pub translate-requires : goal.translate-requires
-translate-requires g c =
-    let passed = check_decides.sound (g.D.Domain.meaning c.args.domain.now) c.args.names.now c.args.listing.now (sym c.in_ok-check.ensures) in
-    record { long = passed.1.few_records; room = c.args.code.now.room }
-
 -- It is that of a term, whose translation the code then is.
 pub returns : goal.returns
 returns g c =

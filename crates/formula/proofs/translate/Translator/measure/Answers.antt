@@ -1,21 +1,23 @@
-use Rattle.std.proofs.Common.{◌≡◌, ◌-◌, reverse, drop, vec_items, sym, subst, arith, rules}
-use lib.Seq.{drop-length}
-use Rattle.formula.specs.Translate.{Measured}
+use Rattle.std.proofs.Common.{◌++◌, ◌∷◌, [], length, length-append, ap, ◌∙◌, arith, rules}
+use Rattle.std.proofs.lemmas.Iterator.Adapters.{YieldsList-from_rev_slice}
+use Rattle.std.proofs.lemmas.Iterator.Consumers.{YieldsList-turn}
 use Rattle.formula.proofs.Measuring.{measured_none, measured_step}
 use Rattle.formula.proofs.translate.Translator.measure.Goals as goal
 
-pub loop-place-init : goal.loop-place-init
-loop-place-init c =
-    let xs = reverse (vec_items c.clear.new.self) in
-    (subst (λ row. Measured row xs) (sym (drop-length c.args.listing.now)) (measured_none xs), search rules)
+pub loop-node-init : goal.loop-node-init
+loop-node-init c = record {
+  can_next = tt;
+  finite = tt;
+  measured = measured_none c.args.listing.now _ _ (omega arith);
+  count = ap length c.clear.ensures;
+}
 
-pub loop-place-preserved : goal.loop-place-preserved
-loop-place-preserved c =
-    let place = c.loop-place.place in
-    (measured_step c.args.listing.now (place - 1) place _ _ _ c.requires (omega arith) (omega arith) c.loop-place.invariant.0 c.measure_one.ensures.items, search rules)
-
-pub returns : goal.returns
-returns c =
-    let xs = reverse (vec_items c.loop-place.self.extents) in
-    let none : c.loop-place.place ≡ 0 = omega arith in
-    subst (λ p. Measured (drop p c.args.listing.now) xs) none c.loop-place.invariant.0
+pub loop-node-preserved : goal.loop-node-preserved
+loop-node-preserved c =
+    let turn = YieldsList-turn (YieldsList-from_rev_slice {s = c.into_iter-node-iterator.result} c.args.listing.now (search rules)) c.loop-node.yielded _ c.loop-node.yielded_by _ c.next.new.self c.in-Some.node c.in-Some.is c.next.ensures.steps in
+    record {
+      can_next = tt;
+      finite = tt;
+      measured = measured_step c.args.listing.now _ _ c.in-Some.node.now c.loop-node.self.extents _ c.requires turn.0 turn.1 (length-append c.loop-node.yielded (c.in-Some.node ∷ [])) c.loop-node.invariant.measured (c.push.ensures ∙ ap (λ x. c.loop-node.self.extents ++ x ∷ []) c.extent-extent.ensures);
+      count = rw c.push.ensures (simp length-append (omega arith));
+    }

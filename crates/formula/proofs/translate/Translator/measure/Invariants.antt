@@ -1,8 +1,12 @@
-use Rattle.std.proofs.Common.{◌≡◌, ◌+◌, reverse, length, drop, vec_items, vec_len}
+use Rattle.std.proofs.Common.{◌≡◌, ◌-◌, reverse, length, drop}
 use Rattle.formula.specs.Translate.{Measured}
 use Rattle.formula.proofs.translate.Translator.measure.Given as goal
 
-abbrev pub invariant-loop-place : goal.invariant-loop-place
-invariant-loop-place l =
-    Measured (drop l.place l.listing) (reverse (vec_items l.self.extents))
-    × (vec_len l.self.extents + l.place ≡ length l.listing)
+-- The records gone over, which are the last ones, are measured.
+abbrev pub invariant-loop-node : goal.invariant-loop-node
+invariant-loop-node l = record {
+  can_next : (goal.iterator-loop-node).can_next l.node-iterator;
+  finite : (goal.iterator-loop-node).is_finite l.node-iterator;
+  measured : Measured (drop (length l.listing - length l.yielded) l.listing) (reverse l.self.extents);
+  count : length l.self.extents ≡ length l.yielded;
+}

@@ -1,12 +1,7 @@
-use Rattle.std.proofs.Common.{◌≡◌, length, vec_items, ◌∙◌, arith}
-use Rattle.formula.proofs.Measuring.{read_from_end, past_the_end}
+use Rattle.std.proofs.Common.{reverse, ap, ◌∙◌, rules}
+use Rattle.std.specs.List.{slice_get}
+use Rattle.formula.proofs.Measuring.{measured_or_none}
 use Rattle.formula.proofs.translate.Translator.measured_at.Goals as goal
 
-pub returns-then-place-len : goal.returns-then-place-len
-returns-then-place-len c =
-    let xs = vec_items c.args.self.now.extents in
-    let n : c.len-len.result ≡ length xs = c.len-len.ensures ∙ c.args.self.now.extents.ok.0 in
-    read_from_end xs c.args.place _ _ (omega arith) (rw n at c.index.ensures)
-
-pub returns-else-place-len : goal.returns-else-place-len
-returns-else-place-len c = past_the_end (vec_items c.args.self.now.extents) c.args.place _ (omega (arith, c.args.self.now.extents.ok.0))
+pub returns : goal.returns
+returns c = measured_or_none (reverse c.args.self.now.extents) c.args.place (λ y h. search rules) (c.nth_last.ensures.value ∙ ap (slice_get (reverse c.args.self.now.extents)) c.from.ensures) c.unwrap_or_default.ensures

@@ -1,5 +1,5 @@
-use Rattle.reading.proofs.Shown.{reads_as_shown}
+use Rattle.semantics.proofs.PartialReading.{reads_as_shown}
 use Rattle.reading.proofs.reader.read.reads_as_shown.Goals as goal
 
 pub returns : goal.returns
-returns c = reads_as_shown
+returns c = reads_as_shown.back

@@ -1,4 +1,4 @@
-use Rattle.reading.proofs.Translations.{reads_translations}
+use Rattle.semantics.proofs.PartialReading.{reads_translations}
 use Rattle.reading.proofs.reader.read.reads_translations.Goals as goal
 
 pub returns : goal.returns

@@ -1,5 +1,0 @@
-use Rattle.formula.proofs.Layouts.{instructions_are_the_table}
-use Rattle.formula.proofs.instruction.instructions_are_the_table.Goals as goal
-
-pub returns : goal.returns
-returns c = instructions_are_the_table

@@ -1,5 +1,0 @@
-use Rattle.formula.proofs.Labels.{labels_are_the_table}
-use Rattle.formula.proofs.label.labels_are_the_table.Goals as goal
-
-pub returns : goal.returns
-returns c = labels_are_the_table
