@@ -111,7 +111,8 @@ impl<T: Copy, const ROOM: usize> BoundedVec<T, ROOM> {
         ensures value { result ≡ slice_get (reverse self.now) after }
         ensures within { IsSome result ↔ (after < length self.now) }
     {
-        self.items.iter().rev().nth(after).copied()
+        let place = self.len().checked_sub(after)?.checked_sub(1)?;
+        self.items.get(place).copied()
     }
 }
 

@@ -17,7 +17,7 @@ use std::fmt;
 /// The operations of every domain. An enum and no closure, since records and instructions name an operation by its number.
 #[derive(Clone, Copy, Debug, PartialEq, Eq)]
 pub enum Op {
-    Add = 1,
+    Add,
     Sub,
     Mul,
     Div,
@@ -39,7 +39,7 @@ impl From<Op> for u64 {
     ghost from_gives = { λ op number. number ≡ op_number op };
 
     fn from(op: Op) -> u64 {
-        op as u64
+        op as u64 + 1
     }
 }
 

@@ -2,7 +2,7 @@
 use Rattle.std.proofs.Common.{◌≡◌, ℕ, suc, ◌+◌, ◌<◌, ◌≤◌, min, Bool, List, [], ◌∷◌, ◌++◌, length, get_or, drop, Some, None, Ok, Err, vec_items, vec_len, vec_capacity, Vec, sym, refl, ap, ◌∙◌, subst, arith}
 use native.Mathlib.Nat.{min-eq_left}
 use Rattle.std.specs.Option.{ok_or}
-use Rattle.std.proofs.lemmas.List.{length-drop, drop_more, append-nil}
+use Rattle.std.proofs.lemmas.List.{length-drop, drop_more, append-nil, append_assoc}
 use Rattle.domain.specs.declared.Op.{Op}
 use Rattle.semantics.specs.declared.layout.Node.{Node}
 use Rattle.semantics.specs.declared.layout.Label.{Label}
@@ -75,6 +75,15 @@ module _ (row : List Node) (p q : ℕ) (n : Node) (is : q ≡ p) (at : n ≡ get
 -- No term begins past the last record.
 pub no_term_past : (row : List Node) (p : ℕ) → length row ≤ p → (t : Term) (rest : List Node) → drop p row ≡ listing_before t rest → ⊥
 no_term_past row p past t rest e = omega (arith, within row p t rest e, code_size_bounded t)
+
+-- One instruction more.
+pub grows_by_one : {Z : Type 0} {a b : Vec Instruction Z} {i : Instruction} → vec_items b ≡ vec_items a ++ i ∷ [] → vec_len b ≡ vec_len a + 1 → vec_capacity b ≡ vec_capacity a →
+    Grows a b 1 (λ k. i ∷ k)
+grows_by_one {a = a} {i = i} items count capacity = record {
+  capacity = capacity;
+  count = λ room. count;
+  added = λ room k. ap (λ z. z ++ k) items ∙ append_assoc (vec_items a) (i ∷ []) k;
+}
 
 -- One growth and then another.
 and_then : {Z : Type 0} {a b c : Vec Instruction Z} {m n : ℕ} {f g : List Instruction → List Instruction} → Grows a b m f → Grows b c n g → Grows a c (m + n) (λ k. f (g k))

@@ -8,10 +8,11 @@ abbrev pub most_owed : ℕ
 most_owed = 1537
 
 -- Where a walk stands: the binders that the node at hand is under, and those of each term owed, the next term first. The
--- innermost binder comes first.
+-- innermost binder comes first. Its vectors, for terms owed and for the path, have these capacities.
 pub record Walked : Type 0 where
   pub here : List ℕ
   pub owed : List (List ℕ)
+  pub capacities : ℕ × ℕ
 
 -- The binders of a term owed: its own, if it has one, before those of the path to its depth. The path has its outermost first.
 abbrev pub binders_of : List ℕ → Owed → List ℕ

@@ -1,52 +1,54 @@
 //! The check that every variable is in scope, by one walk over the listing.
-ghost use Rattle.std.specs.Prelude.{◌≡◌, ◌+◌, ◌<◌, ◌≤◌, [], ◌∷◌, ◌++◌, length, slice_get, IfOk, IfSome, IfNone};
+ghost use Rattle.std.specs.Prelude.{◌≡◌, ◌+◌, ◌<◌, ◌≤◌, [], ◌∷◌, ◌++◌, length, slice_get, IfOk, IfSome, IfNone, vec_capacity};
 ghost use Rattle.std.specs.Option.{option_to_list};
 ghost use Rattle.semantics.specs.Sizes.{most_records};
 ghost use Rattle.formula.specs.Check.{label_in_scope, scopes_below, scoped};
 ghost use Rattle.formula.specs.Scopes.{most_owed};
 
 use crate::refusal::Refusal;
-use bounded::BoundedVec;
 use semantics::layout::{Label, MOST_RECORDS, Node};
 use std::alloc::{AllocError, Global};
 use std::marker::Model;
+use std::mem;
 
 /// The most terms that are owed at a time: one, and three for each record.
-const MOST_OWED: usize = 3 * MOST_RECORDS + 1;
+pub const MOST_OWED: usize = 3 * MOST_RECORDS + 1;
 
 /// A term still owed: how many binders of the path it is under, and the binder that it is under besides.
 #[derive(Clone, Copy)]
-struct Owed {
+pub struct Owed {
     depth: usize,
     binder: Option<u16>,
 }
 
 /// A walk over a listing: the terms still owed, the next one last, and the binders on the path to the node at hand, the
-/// outermost first. A clause sees the binders of each, innermost first.
+/// outermost first. A clause sees the binders of each, innermost first. Vectors and no BoundedVecs, since `check_scopes`
+/// promises of those of a caller that their capacities stay.
 #[derive(Drop)]
 pub struct Walk {
-    owed: BoundedVec<Owed, MOST_OWED>,
-    path: BoundedVec<u16, MOST_RECORDS>,
+    owed: Vec<Owed>,
+    path: Vec<u16>,
 }
 
 impl Model for Walk {
-    ghost use Rattle.std.specs.Prelude.{map, reverse, length};
-    ghost use Rattle.formula.specs.Scopes.{Walked, Falling, binders_of};
+    ghost use Rattle.std.specs.Prelude.{◌≤◌, map, reverse, length, vec_items, vec_capacity};
+    ghost use Rattle.semantics.specs.Sizes.{most_records};
+    ghost use Rattle.formula.specs.Scopes.{Walked, Falling, binders_of, most_owed};
 
     ghost Value = { Walked };
 
-    ghost view = { λ w. record { here = reverse w.path; owed = map (binders_of w.path) (reverse w.owed) } };
+    ghost view = { λ w. record { here = reverse (vec_items w.path); owed = map (binders_of (vec_items w.path)) (reverse (vec_items w.owed)); capacities = (vec_capacity w.owed, vec_capacity w.path) } };
 
-    ghost invariant = { λ w. Falling (length w.path) (reverse w.owed) };
+    ghost invariant = { λ w. Falling (length (vec_items w.path)) (reverse (vec_items w.owed)) × (most_owed ≤ vec_capacity w.owed) × (most_records ≤ vec_capacity w.path) };
 }
 
 impl Walk {
     /// Reserves the scratch.
     pub fn new(heap: Global) -> Result<Walk, AllocError>
-        ensures { IfOk result (λ w. w ≡ record { here = []; owed = [] }) }
+        ensures { IfOk result (λ w. (w.here ≡ []) × (w.owed ≡ [])) }
     {
-        let owed = BoundedVec::new(heap)?;
-        let path = BoundedVec::new(heap)?;
+        let owed = Vec::with_capacity(heap, MOST_OWED)?;
+        let path = Vec::with_capacity(heap, MOST_RECORDS)?;
         Ok(Walk { owed, path })
     }
 
@@ -55,13 +57,10 @@ impl Walk {
         ensures { result ≡ slice_get (self.now.here ++ names.now) between }
     {
         let between = usize::try_from(between).ok()?;
-        self.path
-            .as_slice()
-            .iter()
-            .rev()
-            .chain(names)
-            .nth(between)
-            .copied()
+        match between.checked_sub(self.path.len()) {
+            None => Some(self.path[self.path.len() - 1 - between]),
+            Some(past) => names.get(past).copied(),
+        }
     }
 
     /// A record is in scope at the node at hand.
@@ -88,7 +87,7 @@ impl Walk {
         ensures { self.new ≡ record self.old { owed = (option_to_list binder ++ self.old.here) ∷ self.old.owed } }
     {
         let depth = self.path.len();
-        self.owed.push(Owed { depth, binder });
+        self.owed.push_reserved(Owed { depth, binder });
     }
 
     /// The children of the node at hand are owed, the first before the others.
@@ -117,7 +116,7 @@ impl Walk {
 
     /// One term is owed, under no binder.
     fn begin(&mut self)
-        ensures { self.new ≡ record { here = []; owed = [] ∷ [] } }
+        ensures { self.new ≡ record self.old { here = []; owed = [] ∷ [] } }
     {
         self.owed.clear();
         self.path.clear();
@@ -130,11 +129,12 @@ impl Walk {
         ensures some { IfSome result (λ _. self.old.owed ≡ self.new.here ∷ self.new.owed) }
         ensures none { IfNone result (self.old.owed ≡ []) }
         ensures deeper { length self.new.here ≤ length self.old.here + 1 }
+        ensures capacities { self.new.capacities ≡ self.old.capacities }
     {
         let next = self.owed.pop()?;
         self.path.truncate(next.depth);
         if let Some(name) = next.binder {
-            self.path.push(name);
+            self.path.push_reserved(name);
         }
         Some(())
     }
@@ -143,7 +143,8 @@ impl Walk {
     // That the listing is short is asked here as in check.rt, which says why.
     pub fn check_scopes(&mut self, names: &[u16], listing: &[Node]) -> Result<(), Refusal>
         requires { length listing.now ≤ most_records }
-        ensures { result ≡ scoped 0 (names.now ∷ []) listing.now }
+        ensures scoped { result ≡ scoped 0 (names.now ∷ []) listing.now }
+        ensures capacities { self.new.capacities ≡ self.old.capacities }
     {
         self.begin();
         for (place, node) in listing.iter().enumerate() {
@@ -162,12 +163,42 @@ impl Walk {
     }
 }
 
+/// Every variable is in scope, by a walk in vectors of the caller.
+pub fn check_scopes(
+    owed: &mut Vec<Owed>,
+    path: &mut Vec<u16>,
+    names: &[u16],
+    listing: &[Node],
+) -> Result<(), Refusal>
+    requires few { length listing.now ≤ most_records }
+    requires owing { most_owed ≤ vec_capacity owed.old }
+    requires room { most_records ≤ vec_capacity path.old }
+    ensures scoped { result ≡ scoped 0 (names.now ∷ []) listing.now }
+    ensures capacities { (vec_capacity owed.new ≡ vec_capacity owed.old) × (vec_capacity path.new ≡ vec_capacity path.old) }
+{
+    owed.clear();
+    path.clear();
+    let heap = *owed.allocator();
+    let mut walk = Walk {
+        owed: mem::replace(owed, Vec::new(heap)),
+        path: mem::replace(path, Vec::new(heap)),
+    };
+    let answer = walk.check_scopes(names, listing);
+    let Walk {
+        owed: owed_room,
+        path: path_room,
+    } = walk;
+    *owed = owed_room;
+    *path = path_room;
+    answer
+}
+
 #[cfg(test)]
 mod tests {
-    use super::Walk;
+    use super::{MOST_OWED, Walk, check_scopes};
     use crate::refusal::Refusal;
     use semantics::kind::NodeKind;
-    use semantics::layout::Node;
+    use semantics::layout::{MOST_RECORDS, Node};
     use std::alloc::AllocError;
 
     #[test]
@@ -179,6 +210,9 @@ mod tests {
         ];
         assert!(rt; walk.check_scopes(&[7], &listing) == Ok(()));
         assert!(rt; walk.check_scopes(&[8], &listing) == Err(Refusal::OutOfScope(1)));
+        let mut owed = Vec::with_capacity(rt.alloc(), MOST_OWED)?;
+        let mut path = Vec::with_capacity(rt.alloc(), MOST_RECORDS)?;
+        assert!(rt; check_scopes(&mut owed, &mut path, &[7], &listing) == Ok(()));
         Ok(())
     }
 }

@@ -1,6 +1,7 @@
 -- What waits for a value in a state of a run, and that the next contraction is looked for there.
 use Rattle.std.proofs.Common.{◌≡◌, ℕ, zero, suc, Bool, List, [], ◌∷◌, refl, ap}
 use Rattle.semantics.specs.Terms.{Term, lam, if_then}
+use Rattle.semantics.specs.Values.{Value, number, boolean, function, Env, ε, ◌▸◌}
 use Rattle.semantics.specs.Substitution.{fill}
 use Rattle.semantics.specs.declared.layout.Instruction.{Instruction}
 use Rattle.semantics.specs.declared.layout.Instruction.TheVariants.{End, PushThunk, Bind, Unbind, Return, Choose}
@@ -9,6 +10,7 @@ use Rattle.semantics.specs.Machine.{Held, h_number, h_boolean, closure, HeldEnv,
 use Rattle.semantics.specs.Showing.{Mark, in_let, holding, read, show_held, show_env, own_cells, through_frames}
 use Rattle.semantics.specs.Reduction.{IsValue, num_value, truth_value, lam_value}
 use Rattle.semantics.proofs.ReadingBack.{read-emit}
+use Rattle.semantics.proofs.Simulation.{Fits, fits_number, fits_boolean, fits_function, FitsEnv, fits_none, fits_more}
 use Rattle.semantics.proofs.OneReduction.{Joins, joins_operate, node, Congruent}
 
 -- What a state of a run is made of, where P holds of each term that is to be worked out.
@@ -19,11 +21,22 @@ module _ (P : Term → Type 0) where
       good_number : {c : ℕ} → Good (h_number c)
       good_boolean : {b : Bool} → Good (h_boolean b)
       good_closure : {x : ℕ} (p : ℕ) (b : Term) (k : List Instruction) {ρ : HeldEnv} → P (lam x b) → GoodEnv ρ →
-          Good (closure x (emit p b (Return ∷ k)) ρ)
+          Good (closure x (emit (suc p) b (Return ∷ k)) ρ)
 
     pub data GoodEnv : HeldEnv → Type 0 where
       good_none : GoodEnv ∅
       good_more : {h : Held} {ρ : HeldEnv} → Good h → GoodEnv ρ → GoodEnv (h ◂ ρ)
+
+  -- It stands for some value.
+  mutual
+    pub good_stands : {h : Held} → Good h → (v : Value) × Fits h v
+    good_stands good_number = (number _, fits_number)
+    good_stands good_boolean = (boolean _, fits_boolean)
+    good_stands (good_closure p b k s g) = (function _ b p (env_stands g).0, fits_function k (env_stands g).1)
+
+    pub env_stands : {ρ' : HeldEnv} → GoodEnv ρ' → (ρ : Env) × FitsEnv ρ' ρ
+    env_stands good_none = (ε, fits_none)
+    env_stands (good_more h g) = ((good_stands h).0 ▸ (env_stands g).0, fits_more (good_stands h).1 (env_stands g).1)
 
   -- So it is with what is fetched, and with the inputs.
   pub good_fetch : {ρ : HeldEnv} → GoodEnv ρ → (i : ℕ) → Good (fetch ρ i)

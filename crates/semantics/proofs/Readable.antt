@@ -23,7 +23,7 @@ mutual
   held_readable : {h : Held} → Good Any h → ReadableHeld h
   held_readable good_number = tt
   held_readable good_boolean = tt
-  held_readable (good_closure p b k {ρ = ρ} s g) = ((fill 1 (show_env ρ) b, attempt-emit p b (Return ∷ k) 1 (show_env ρ) [] []), env_readable g)
+  held_readable (good_closure p b k {ρ = ρ} s g) = ((fill 1 (show_env ρ) b, attempt-emit (suc p) b (Return ∷ k) 1 (show_env ρ) [] []), env_readable g)
 
   env_readable : {ρ : HeldEnv} → GoodEnv Any ρ → ReadableEnv ρ
   env_readable good_none = tt

@@ -52,7 +52,7 @@ module _ (L : Bounds) where
   falls-enter p m N good_number s K b = omega arith
   falls-enter p m N good_boolean s K b = omega arith
   falls-enter p m N (good_closure q t r le g) s K b =
-      (omega arith, λ room. (on_term q t (omega arith) (k_return (good_more s g) K), omega (arith, cell_left L.store m for_store room, body_frame t le)))
+      (omega arith, λ room. (on_term (suc q) t (omega arith) (k_return (good_more s g) K), omega (arith, cell_left L.store m for_store room, body_frame t le)))
 
   -- An If enters a branch.
   falls-branch : (p qt qe : ℕ) (t e : Term) (r₁ r₂ : List Instruction) (h : Held) {ρ : HeldEnv} {k : List Instruction} {c : List Cell} (m N : ℕ) →
@@ -78,7 +78,7 @@ module _ (L : Bounds) where
     falls_about (eq l r) p m N le K b = falls_about l _ m N (omega arith) (k_first joins_compare _ r (omega arith) K) (omega arith)
     falls_about (app f a) p m N le K b = falls_about f _ m N (omega arith) (k_first joins_apply _ a (omega arith) K) (omega arith)
     falls_about (lam x t) p {k = k} m N le K b =
-        rw (drop_body (suc p) t k) (omega arith, λ _. (on_value (good_closure (suc p) t k le (good_around Sized K)) K, omega arith))
+        rw (drop_body (suc p) t k) (omega arith, λ _. (on_value (good_closure p t k le (good_around Sized K)) K, omega arith))
     falls_about (let_in x a t) p m N le K b = falls_about a _ m N (omega arith) (k_let_bound x _ t (omega arith) K) (omega arith)
     falls_about (if_then q t e) p {k = k} m N le K b =
         let after : List Instruction = PushThunk (suc (code_size e)) ∷ else_code p q t e k in

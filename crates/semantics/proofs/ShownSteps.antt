@@ -39,7 +39,7 @@ mutual
   held_closed good_number j τ = refl
   held_closed good_boolean j τ = refl
   held_closed (good_closure {x = x} p b k {ρ = ρ} s g) j τ =
-      rw (read-emit p b (Return ∷ k) 1 (show_env ρ) [] []) (ap (lam x) (fill-closed (show_env ρ) (env_closed g) b 1 (suc j) τ (omega arith)))
+      rw (read-emit (suc p) b (Return ∷ k) 1 (show_env ρ) [] []) (ap (lam x) (fill-closed (show_env ρ) (env_closed g) b 1 (suc j) τ (omega arith)))
 
   env_closed : {ρ : HeldEnv} → GoodEnv Any ρ → AllClosed (show_env ρ)
   env_closed good_none i j τ = refl
@@ -98,15 +98,15 @@ module _ (𝓜 : Meaning) where
   enter_kept p {h = h} m good_number g K = (tt, wrap-stuck K _ (no_rule 𝓜 (ready_app num_value (held_shows_value h)) (λ u d. elim d [ ])))
   enter_kept p {h = h} m good_boolean g K = (tt, wrap-stuck K _ (no_rule 𝓜 (ready_app truth_value (held_shows_value h)) (λ u d. elim d [ ])))
   enter_kept p {h = h} m (good_closure q b r {ρ = ρ₁} s gf) g K = (
-    on_term q b tt (k_return (good_more g gf) K),
+    on_term (suc q) b tt (k_return (good_more g gf) K),
     wrap_reduces K _ _ (r_top (c_app (held_shows_value h) filled)),
   )
     where
-      filled : fill 0 (show_held h ∷ []) (read (emit q b (Return ∷ r)) 1 (show_env ρ₁) [] []) ≡ read (emit q b (Return ∷ r)) 0 (show_env (h ◂ ρ₁)) [] []
+      filled : fill 0 (show_held h ∷ []) (read (emit (suc q) b (Return ∷ r)) 1 (show_env ρ₁) [] []) ≡ read (emit (suc q) b (Return ∷ r)) 0 (show_env (h ◂ ρ₁)) [] []
       filled =
-          ap (fill 0 (show_held h ∷ [])) (read-emit q b (Return ∷ r) 1 (show_env ρ₁) [] [])
+          ap (fill 0 (show_held h ∷ [])) (read-emit (suc q) b (Return ∷ r) 1 (show_env ρ₁) [] [])
           ∙ fill-front (show_held h) (show_env ρ₁) (env_closed gf) b 0
-          ∙ sym (read-emit q b (Return ∷ r) 0 (show_env (h ◂ ρ₁)) [] [])
+          ∙ sym (read-emit (suc q) b (Return ∷ r) 0 (show_env (h ◂ ρ₁)) [] [])
 
   -- A branch is entered.
   branch_kept : (p qt qe : ℕ) (t e : Term) (r₁ r₂ : List Instruction) (h : Held) {k : List Instruction} {ρ : HeldEnv} {c : List Cell} (m : ℕ) → Kont Any k ρ c →
@@ -129,7 +129,7 @@ module _ (𝓜 : Meaning) where
   term_kept (lam x b) p {k = k} {ρ = ρ} {c = c} m K =
       let body : List Instruction = emit (suc p) b (Return ∷ k) in
       subst (λ i. Kept (show (at (emit p (lam x b) k) ρ c m)) false (goes (at i ρ (val (closure x body ρ) ∷ c) m))) (sym (drop_body (suc p) b k)) (
-        on_value (good_closure (suc p) b k tt (good_around Any K)) K,
+        on_value (good_closure p b k tt (good_around Any K)) K,
         ap (λ z. wrap k ρ c (lam x z)) (read-emit (suc p) b (Return ∷ k) 1 (show_env ρ) [] []) ∙ sym (frame_read p (lam x b) k ρ [] (own_cells c) c),
       )
   term_kept (let_in x a b) p m K = term_kept a (suc p) m (k_let_bound x (suc p + size a) b tt K)

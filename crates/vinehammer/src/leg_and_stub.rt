@@ -31,8 +31,11 @@ fn bind(name: u16) -> Node {
     Node::new(NodeKind::Let, name, 0)
 }
 
+/// How many records its listing has.
+pub const RECORDS: usize = 25;
+
 /// Its listing: the index of a variable decides which "start" it is.
-pub fn listing() -> [Node; 25] {
+pub fn listing() -> [Node; RECORDS] {
     [
         bind(START),
         var(4, 4),

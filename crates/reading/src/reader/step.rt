@@ -8,11 +8,14 @@ use crate::reader::{Mark, Reader, Tree};
 use bounded::BoundedVec;
 use semantics::layout::Instruction;
 
-/// Takes off the two trees on top, the topmost last.
+/// Takes off the two trees on top, the topmost last, where there are two.
 fn pop_two(stack: &mut BoundedVec<usize, MOST_WORK>) -> Option<(usize, usize)>
     ensures some { IfSome result (λ two. stack.old ≡ stack.new ++ two.0 ∷ two.1 ∷ []) }
-    ensures none { IfNone result (length stack.old < 2) }
+    ensures none { IfNone result ((length stack.old < 2) × (stack.new ≡ stack.old)) }
 {
+    if stack.len() < 2 {
+        return None;
+    }
     let last = stack.pop()?;
     let first = stack.pop()?;
     Some((first, last))
@@ -43,12 +46,14 @@ impl Reader {
     /// ENDLET makes a tree of the Let last opened and of the body on top.
     fn close_let(&mut self) -> Option<()>
         requires { HasRoom self.old }
-        ensures { answered result (workspace_of self.new) ≡ performed Instruction.Unbind (workspace_of self.old) }
+        ensures reads { answered result (workspace_of self.new) ≡ performed Instruction.Unbind (workspace_of self.old) }
+        ensures kept { IfNone result (workspace_of self.new ≡ workspace_of self.old) }
     {
-        let body = self.stack.pop()?;
-        let Some(Mark::Let { name, bound }) = self.marks.pop() else {
+        let Some(Mark::Let { name, bound }) = self.marks.nth_last(0) else {
             return None;
         };
+        let body = self.stack.pop()?;
+        self.marks.pop();
         self.scope = self.scope.saturating_sub(1);
         self.put(Tree::Let { name, bound, body });
         Some(())
@@ -57,24 +62,29 @@ impl Reader {
     /// RETURN closes the body last opened: a Lambda's becomes its tree, a thunk's stays as it is.
     fn close_body(&mut self) -> Option<()>
         requires { HasRoom self.old }
-        ensures { answered result (workspace_of self.new) ≡ performed Instruction.Return (workspace_of self.old) }
+        ensures reads { answered result (workspace_of self.new) ≡ performed Instruction.Return (workspace_of self.old) }
+        ensures kept { IfNone result (workspace_of self.new ≡ workspace_of self.old) }
     {
-        let body = self.stack.pop()?;
-        match self.marks.pop()? {
+        let mark = self.marks.nth_last(0)?;
+        let body = self.stack.nth_last(0)?;
+        match mark {
             Mark::Lambda { name } => {
+                self.stack.pop();
                 self.scope = self.scope.saturating_sub(1);
                 self.put(Tree::Lam { name, body });
             }
-            Mark::Thunk => self.stack.push(body),
+            Mark::Thunk => {}
             Mark::Let { .. } => return None,
         }
+        self.marks.pop();
         Some(())
     }
 
-    /// Reads one instruction, where it fits. END is not for here.
+    /// Reads one instruction, where it fits; one that does not changes nothing. END is not for here.
     pub(crate) fn step(&mut self, instruction: Instruction) -> Option<()>
         requires { HasRoom self.old }
-        ensures { answered result (workspace_of self.new) ≡ performed instruction (workspace_of self.old) }
+        ensures reads { answered result (workspace_of self.new) ≡ performed instruction (workspace_of self.old) }
+        ensures kept { IfNone result (workspace_of self.new ≡ workspace_of self.old) }
     {
         match instruction {
             Instruction::End => return None,
@@ -111,6 +121,9 @@ impl Reader {
             }
             Instruction::Return => self.close_body()?,
             Instruction::Choose { .. } => {
+                if self.stack.len() < 3 {
+                    return None;
+                }
                 let condition = self.stack.pop()?;
                 let (yes, no) = pop_two(&mut self.stack)?;
                 self.put(Tree::If { condition, yes, no });

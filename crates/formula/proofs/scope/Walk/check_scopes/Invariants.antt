@@ -9,4 +9,5 @@ invariant-loop-place l = record {
   answer : scoped l.place (with_inputs l.names l.self.owed) (drop l.place l.listing) ≡ scoped 0 (l.names ∷ []) l.listing;
   deep : length l.self.here ≤ l.place;
   owed : length l.self.owed ≤ 1 + 3 * l.place;
+  capacities : l.self.capacities ≡ l.initial.self.capacities;
 }

@@ -12,11 +12,11 @@ step-requires c =
 
 pub returns-in_err-step-clause-term : goal.returns-in_err-step-clause-term
 returns-in_err-step-clause-term c =
-    unread _ _ _ _ _ c.in_ok-last.ensures.cases.0 (turn _ _ _ _ c.loop-instruction-test.true c.loop-instruction.invariant ∙ sym c.in_err-step.ensures)
+    unread _ _ _ _ _ c.in_ok-last.ensures.cases.0 (turn _ _ _ _ c.loop-instruction-test.true c.loop-instruction.invariant ∙ sym c.in_err-step.ensures.reads)
     ∙ ap (option_map _) (sym c.from_residual-in_err-step.ensures)
 
 pub loop-instruction-preserved : goal.loop-instruction-preserved
-loop-instruction-preserved c = turn _ _ _ _ c.loop-instruction-test.true c.loop-instruction.invariant ∙ sym c.in_ok-step.ensures
+loop-instruction-preserved c = turn _ _ _ _ c.loop-instruction-test.true c.loop-instruction.invariant ∙ sym c.in_ok-step.ensures.reads
 
 pub returns : goal.returns
 returns c =
