@@ -3,6 +3,7 @@ use crate::leg_and_stub::{NAMES, RECORDS, TEXT, listing};
 use domain::screen::Screen;
 use formula::load::{Code, Loader};
 use reading::reader::Reader;
+use semantics::kind::NodeKind;
 use semantics::layout::Node;
 use std::{fmt, io};
 use whole::Whole;
@@ -18,11 +19,7 @@ fn print_row<T: fmt::Display>(rt: &HostRuntime, row: &[T]) -> io::Result<()> {
 fn print_back(rt: &HostRuntime, code: &Code) -> io::Result<()> {
     let mut reader = Reader::new(rt.alloc())?;
     // Blank before, so that what is printed is what was read.
-    let mut back = [Node {
-        kind: 0,
-        name: 0,
-        number: 0,
-    }; RECORDS];
+    let mut back = [Node::new(NodeKind::Num, 0, 0); RECORDS];
     match reader.give_back(&code.items, NAMES.len(), &mut back) {
         Ok(count) => {
             println!(rt; "read back, {count} records:")?;

@@ -23,12 +23,16 @@ code_sized : (z : ℤ) → mag z ≤ limit → code_of z < 2 ^ 64
 code_sized (pos n) h = omega arith
 code_sized (negsuc n) h = omega arith
 
--- The code of a number in the range is lawful.
-code_lawful : (z : ℤ) → in_range z ≡ true → is_lawful (code_of z) ≡ true
-code_lawful z h =
+-- The code of a number in the range is that number's.
+pub number_of_code : (z : ℤ) → in_range z ≡ true → number_of (code_of z) ≡ z
+number_of_code z h =
     let m : mag z ≤ limit = range_magnitude z h in
     let f : mag z < 2 ^ 63 = omega arith in
-    and_from _ _ (lt-ltb _ _ (code_sized z m)) (ap in_range (to_z-of_z w64 z (record { sfits = f })) ∙ h)
+    to_z-of_z w64 z (record { sfits = f })
+
+-- The code of a number in the range is lawful.
+code_lawful : (z : ℤ) → in_range z ≡ true → is_lawful (code_of z) ≡ true
+code_lawful z h = and_from _ _ (lt-ltb _ _ (code_sized z (range_magnitude z h))) (ap in_range (number_of_code z h) ∙ h)
 
 pub answer_in_order : (op : Op) (x y : ℤ) → InOrder is_lawful (answer op x y)
 answer_in_order op x y =
